@@ -19,7 +19,7 @@ use Rattle.pw_schema.specs.Raised.{HasSame, all_but_office, lasting_trees}
 use Rattle.pw_schema.specs.Tables.{schema_of}
 use Rattle.pw_schema.proofs.Outcomes.{early, on_err}
 use Rattle.pw_store.specs.Content.{content_of, energy_told, energy_tree, payment_told, payment_tree, point_in, point_tree, records_of, start_in, start_tree, total_in, total_tree}
-use Rattle.pw_store.specs.Kept.{IsIdle, IsStore, held_of}
+use Rattle.pw_store.specs.Kept.{IsIdle, IsStore, written_of}
 use Rattle.pw_store.specs.Left.{AdoptedHolds, AdoptedOpens, AdoptionRefuses, IsAdopted, MayBeAdopted, SuitsOffice}
 use Rattle.pw_store.specs.Opening.{HoldsKept, HoldsSums, HoldsTotals, IsSpoilt, KeepsText}
 use Rattle.pw_store.specs.inner.Opened.{HasAdopted, IsReplaced, IsSound, RowsRefuse}
@@ -166,10 +166,10 @@ settled_survives r office body old mid new is one two = on_err r (
 
 -- ---- the shelf of before
 module _ (old base : State) where
-  pub held_before : (begun : Bool) → IsIdle old begun → begun ≡ false → HasCleanDisk old → IsTrue old.is_open → held_of old base ≡ content_of old.committed.trees
+  pub held_before : (begun : Bool) → IsIdle old begun → begun ≡ false → HasCleanDisk old → IsTrue old.is_open → written_of old base ≡ content_of old.committed.trees
   held_before begun idle none clean live = ap (λ b. content_of (cond b old.now.trees base.committed.trees)) live ∙ ap content_of (idle clean live none)
 
-  pub adopted_held : (office : OfficeRules) (body : List ℕ) (new fresh : State) (begun : Bool) → IsIdle old begun → begun ≡ false → HasCleanDisk old → IsTrue old.is_open → HasAdopted office body old.committed new → held_of new fresh ≡ held_of old base
+  pub adopted_held : (office : OfficeRules) (body : List ℕ) (new fresh : State) (begun : Bool) → IsIdle old begun → begun ≡ false → HasCleanDisk old → IsTrue old.is_open → HasAdopted office body old.committed new → written_of new fresh ≡ written_of old base
   adopted_held office body new fresh begun idle none clean live it =
       ap (λ b. content_of (cond b new.now.trees fresh.committed.trees)) it.standing.is_open ∙ same_content old.committed.trees new.now.trees it.adopted.same ∙ sym (held_before begun idle none clean live)
 

@@ -1,6 +1,6 @@
--- What an INSERT tells of the key of its row: where it is refused for it nothing has changed, and where it isn't no row
--- had it.
-use Rattle.std.proofs.Common.{◌≡◌, inl, inr, ℕ, ℤ, List, [], ◌∷◌, find, Bool, true, false, not, ◌&&◌, ◌||◌, None, Err, IsTrue, refl, sym, ap, subst, ◌∙◌, Ordering, Less, Equal, Greater}
+-- What an INSERT tells of the keys of its rows: where it is refused for them nothing has changed, and where it isn't no
+-- row had them.
+use Rattle.std.proofs.Common.{◌≡◌, inl, inr, ℕ, ℤ, List, [], ◌∷◌, find, Bool, true, false, not, ◌&&◌, ◌||◌, None, Ok, Err, Result, IfErr, IfOk, OnErr, ◌⊎◌, IsTrue, refl, sym, ap, subst, ◌∙◌, Ordering, Less, Equal, Greater}
 use Rattle.std.proofs.lemmas.Bool.{cases_Bool}
 use Rattle.std.specs.List.{AllByRecursion, list_any}
 use Rattle.std.specs.Ordering.{is_eq}
@@ -12,14 +12,18 @@ use Rattle.sqlite.specs.declared.types.Value.TheVariants.{Int}
 use Rattle.sqlite.specs.declared.error.Error.{Error}
 use Rattle.sqlite.specs.Order.{Row, value_cmp}
 use Rattle.sqlite.specs.Tree.{put_row, rowid}
-use Rattle.sqlite.specs.Edit.{is_taken, id_in}
+use Rattle.sqlite.specs.Edit.{are_fresh, is_taken, id_in, put_all}
 use Rattle.sqlite.specs.Effect.{Database}
-use Rattle.sqlite.specs.State.{State, ExecutesIn, Executes, Fails, IsNotRun, IsUnchanged, shows_rows, store_error}
+use Rattle.sqlite.specs.State.{State, ExecutesIn, Executes, Fails, IsNotRun, IsRolledBack, IsUnchanged, shows_rows, store_error}
+use Rattle.pw_model.specs.Shelf.{ShelfContent}
+use Rattle.pw_schema.specs.Calls.{Writes}
 use Rattle.pw_store.specs.Content.{content_of}
 use Rattle.pw_store.specs.Keyed.{HasRowid}
 use Rattle.pw_store.specs.Kept.{IsStore}
 use Rattle.pw_store.specs.Left.{Keeps}
 use Rattle.pw_store.specs.inner.Changing.{Makes, refuses_key}
+use Rattle.pw_store.proofs.Adding.{was_not}
+use Rattle.pw_store.proofs.Finding.{first, second}
 use Rattle.pw_store.proofs.Placing.{not_first, not_second}
 use Rattle.pw_store.proofs.Scans.{differ_ints}
 
@@ -62,6 +66,29 @@ same_makes old new store inside same = record {
   shows = record { was_open = same.0.was_open; is_open = same.0.is_open; now_is = refl; committed_is = same.0.committed_is; mode = same.0.mode ∙ inside };
 }
 
+-- no row was put, where the key of one was taken; and else the fault is told
+module _ (e : Error) (r : Result ℕ Error) (taken : refuses_key e ≡ true → r ≡ Ok 0) (other : refuses_key e ≡ false → r ≡ Err e) where
+  pub none_refuses : IfErr r (λ f. refuses_key f ≡ false)
+  none_refuses = elim (cases_Bool (refuses_key e)) [
+    | inl up ↦ subst (λ s. IfErr s (λ f. refuses_key f ≡ false)) (sym (taken up)) tt
+    | inr down ↦ subst (λ s. IfErr s (λ f. refuses_key f ≡ false)) (sym (other down)) down
+  ]
+
+  pub none_makes : (old new : State) (sql : List ℕ) (params : Row) (made : ℕ → ShelfContent → ShelfContent) → made 0 ≡ (λ c. c) → IsStore old.now → IsTrue old.in_transaction → Executes sql params old new (Err e) → IfOk r (λ n. Makes (made n) old new)
+  none_makes old new sql params made none store inside h = elim (cases_Bool (refuses_key e)) [
+    | inl up ↦ subst (λ s. IfOk s (λ n. Makes (made n) old new)) (sym (taken up)) (subst (λ m. Makes m old new) (sym none) (same_makes old new store inside (refused_same old new sql params e up h)))
+    | inr down ↦ subst (λ s. IfOk s (λ n. Makes (made n) old new)) (sym (other down)) tt
+  ]
+
+  pub none_writes : (old new : State) → Writes {T = ℕ} (Err e) old new → Writes r old new
+  none_writes old new it = record {
+    failed = λ clean. elim (cases_Bool (refuses_key e)) [
+      | inl up ↦ subst (λ s. OnErr s (IsUnchanged old new ⊎ IsRolledBack old new)) (sym (taken up)) tt
+      | inr down ↦ subst (λ s. OnErr s (IsUnchanged old new ⊎ IsRolledBack old new)) (sym (other down)) (it.failed clean)
+    ];
+    crash = it.crash;
+  }
+
 -- ---- put
 -- what is so of all rows is so of the one that was put
 pub of_new : (P : Row → Type 0) (new : Row) (rows : List Row) → AllByRecursion P (put_row new rows) → P new
@@ -82,6 +109,24 @@ none_beside p new (r ∷ rows) free none = go (none_beside p new rows (not_secon
     go more Less e = let was : (p r || list_any p (put_row new rows)) ≡ false = rw e at none in rw (not_first (p r) _ was) (more (not_second (p r) _ was))
     go more Equal e = absurd (let bad : true ≡ false = rw e at (not_first (is_eq (value_cmp (rowid r) (rowid new))) (is_taken rows new) free) in cc)
     go more Greater e = let was : (p new || list_any p (r ∷ rows)) ≡ false = rw e at none in not_second (p new) _ was
+
+-- what none of the rows is at the end, none was before others were put; and what is so of all at the end, was of all
+pub none_earlier : (p : Row → Bool) (news rows : List Row) → are_fresh rows news ≡ true → list_any p (put_all rows news) ≡ false → list_any p rows ≡ false
+none_earlier p [] rows fresh none = none
+none_earlier p (new ∷ news) rows fresh none = none_beside p new rows (was_not _ (first _ _ fresh)) (none_earlier p news (put_row new rows) (second _ _ fresh) none)
+
+all_beside : (P : Row → Type 0) (new : Row) (rows : List Row) → is_taken rows new ≡ false → AllByRecursion P (put_row new rows) → AllByRecursion P rows
+all_beside P new [] free all = tt
+all_beside P new (r ∷ rows) free all = go (all_beside P new rows (not_second _ _ free)) (value_cmp (rowid r) (rowid new)) refl
+  where
+    go : (AllByRecursion P (put_row new rows) → AllByRecursion P rows) → (o : Ordering) → value_cmp (rowid r) (rowid new) ≡ o → AllByRecursion P (r ∷ rows)
+    go more Less e = let was = rw e at all in (was.0, more was.1)
+    go more Equal e = absurd (let bad : true ≡ false = rw e at (not_first (is_eq (value_cmp (rowid r) (rowid new))) (is_taken rows new) free) in cc)
+    go more Greater e = (rw e at all).1
+
+pub all_earlier : (P : Row → Type 0) (news rows : List Row) → are_fresh rows news ≡ true → AllByRecursion P (put_all rows news) → AllByRecursion P rows
+all_earlier P [] rows fresh all = all
+all_earlier P (new ∷ news) rows fresh all = all_beside P new rows (was_not _ (first _ _ fresh)) (all_earlier P news (put_row new rows) (second _ _ fresh) all)
 
 one_of_two : (a b : Bool) → (a && b) ≡ false → b ≡ true → a ≡ false
 one_of_two true b none up = absurd (let bad : true ≡ false = sym up ∙ none in cc)

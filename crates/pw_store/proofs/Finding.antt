@@ -157,7 +157,7 @@ module _ (t : List ℕ) (a c i : ℕ) where
         tests r it ∙ rw (et, ea, ec, ei) (rw (same_text t, same_number a, same_number c, same_number i) refl),
   )
 
-shown_many : (q : _) (tree : ℕ) (params : Row) (table : List Row) → length (map (λ (o : Output). o.1) (outputs (scan_of tree q) params table)) ≡ length (passing params q.filter table)
+pub shown_many : (q : _) (tree : ℕ) (params : Row) (table : List Row) → length (map (λ (o : Output). o.1) (outputs (scan_of tree q) params table)) ≡ length (passing params q.filter table)
 shown_many q tree params table =
     length-map (outputs (scan_of tree q) params table) (λ (o : Output). o.1)
     ∙ length-map (map (λ r. params ∷ r ∷ []) (passing params q.filter table)) (output (scan_of tree q))

@@ -22,7 +22,7 @@ use Rattle.pw_model.specs.declared.records.TotalKey.TheVariants as total
 use Rattle.pw_model.specs.Shelf.{IsTrueContent, no_content}
 use Rattle.pw_model.proofs.Truth.{empty-true}
 use Rattle.pw_store.specs.Content.{content_of, point_in, start_in, total_in, energy_told, payment_told}
-use Rattle.pw_store.specs.Kept.{IsStore, key_in_point, key_in_start, held_of, left_of}
+use Rattle.pw_store.specs.Kept.{IsStore, key_in_point, key_in_start, written_of, left_of}
 use Rattle.pw_store.specs.Keyed.{AreKeyed, IsEnergyRow, IsPaymentRow}
 use Rattle.pw_store.specs.Content.{content_of}
 use Rattle.pw_store.specs.Opening.{IsFound, KeepsText, offices, shown_office}
@@ -108,17 +108,17 @@ pub opened_at : (s at : State) (office : OfficeRules) (body : List ℕ) (before 
 opened_at s at office body before is = subst (λ (x : State). HasCleanDisk x → IsOpened office body before x) (sym is)
 
 -- of an open connection on which nothing waits, a crash leaves what it holds
-pub left_alone : (s base : State) → IsStanding s → ((db : Trees) → IsTrue s.is_open → s.may_leave db → db ≡ s.committed.trees) → LeavesOnly (held_of s base) (left_of s)
+pub left_alone : (s base : State) → IsStanding s → ((db : Trees) → IsTrue s.is_open → s.may_leave db → db ≡ s.committed.trees) → LeavesOnly (written_of s base) (left_of s)
 left_alone s base it law c l =
     sym l.2 ∙ ap content_of (law l.0 it.is_open l.1 ∙ sym (ap (λ (d : Database). d.trees) it.settled)) ∙ sym (ap (λ b. content_of (cond b s.now.trees base.committed.trees)) it.is_open)
 
-pub open_content : (s base : State) (office : OfficeRules) (body : List ℕ) (before : Database) → IsOpened office body before s → IsFound office before (held_of s base)
+pub open_content : (s base : State) (office : OfficeRules) (body : List ℕ) (before : Database) → IsOpened office body before s → IsFound office before (written_of s base)
 open_content s base office body before it = subst (IsFound office before) (sym (ap (λ b. content_of (cond b s.now.trees base.committed.trees)) it.is_open)) it.found
 
-pub open_few : (s base : State) (office : OfficeRules) (body : List ℕ) (before : Database) → IsOpened office body before s → length (held_of s base).records ≤ most_records
+pub open_few : (s base : State) (office : OfficeRules) (body : List ℕ) (before : Database) → IsOpened office body before s → length (written_of s base).records ≤ most_records
 open_few s base office body before it = subst (λ b. length (records_of (cond b s.now.trees base.committed.trees)) ≤ most_records) (sym it.is_open) it.may_open.few
 
-pub open_truth : (s base : State) (office : OfficeRules) (body : List ℕ) (before : Database) → IsOpened office body before s → IsTrueContent office (held_of s base)
+pub open_truth : (s base : State) (office : OfficeRules) (body : List ℕ) (before : Database) → IsOpened office body before s → IsTrueContent office (written_of s base)
 open_truth s base office body before it = subst (λ b. IsTrueContent office (content_of (cond b s.now.trees base.committed.trees))) (sym it.is_open) it.may_open.truth
 
 pub open_text : (s : State) (office : OfficeRules) (body : List ℕ) (before : Database) → IsOpened office body before s → IsOurs s.now.schema × (KeepsText (KeepsOffice body) s.now.trees)

@@ -1,5 +1,5 @@
 -- What the statements on points, starts and totals mean, whatever the check of `office` says.
-use Rattle.std.proofs.Common.{◌≡◌, ℕ, pos, List, [], ◌∷◌, codes, Bool, true, false, refl}
+use Rattle.std.proofs.Common.{◌≡◌, ◌+◌, ℕ, pos, List, [], ◌∷◌, ◌++◌, codes, Bool, true, false, refl}
 use Rattle.sqlite.specs.declared.types.Value.TheVariants.{Null, Int}
 use Rattle.sqlite.specs.Term.{Term, lit, col, op2}
 use Rattle.sqlite_value.specs.declared.keys.Key.{Key}
@@ -53,6 +53,20 @@ insert_point_text = codes "INSERT INTO point (meter, register, instant, wh) VALU
 pub insert_point_is : IsInsert insert_point_text 4 5 four_terms
 unfolding understood everything
 insert_point_is = record { is = λ checks. refl; plain = λ checks. (refl, refl) }
+
+-- as many points as are put at once
+abbrev pub insert_points_text : List ℕ
+insert_points_text = codes "INSERT INTO point (meter, register, instant, wh) VALUES (?1, ?2, ?3, ?4), (?5, ?6, ?7, ?8), (?9, ?10, ?11, ?12), (?13, ?14, ?15, ?16)"
+
+abbrev terms_from : ℕ → List Term
+terms_from n = lit Null ∷ col 0 n ∷ col 0 (n + 1) ∷ col 0 (n + 2) ∷ col 0 (n + 3) ∷ []
+
+abbrev pub points_terms : List Term
+points_terms = terms_from 0 ++ (terms_from 4 ++ (terms_from 8 ++ terms_from 12))
+
+pub insert_points_is : IsInsert insert_points_text 4 5 points_terms
+unfolding understood everything
+insert_points_is = record { is = λ checks. refl; plain = λ checks. (refl, refl) }
 
 abbrev pub before_text : List ℕ
 before_text = nearest_text (Before 0)

@@ -6,13 +6,16 @@ pub mod AtAssignment
 pub mod AtKey
 pub mod AtTopup
 pub mod AtStanding
+pub mod Beyond
 pub mod Checked
 pub mod Clashing
 pub mod Counted
+pub mod Ending
 pub mod EnergyRows
 pub mod Filled
 pub mod Finding
 pub mod Fresh
+pub mod Frontiers
 pub mod HeldKinds
 pub mod InTurn
 pub mod Inside
@@ -59,5 +62,6 @@ pub mod Texts
 pub mod Scanning
 pub mod Compared
 pub mod Upgraded
+pub mod Waited
 pub mod Adopted
 pub mod Onward

@@ -64,7 +64,7 @@ is_most Less = true
 is_most Equal = true
 is_most Greater = false
 
-abbrev is_least : Ordering → Bool
+abbrev pub is_least : Ordering → Bool
 is_least Less = false
 is_least Equal = true
 is_least Greater = true
@@ -77,7 +77,7 @@ most_ints : (m n : ℕ) → is_true (binary (Compare Le Binary) (Int (pos m)) (I
 unfolding binary
 most_ints m n = truth_of _ ∙ ap is_most (value_cmp-Int (pos m) (pos n) ∙ as_ints m n _ refl)
 
-least_ints : (m n : ℕ) → is_true (binary (Compare Ge Binary) (Int (pos m)) (Int (pos n))) ≡ is_least (nat_cmp m n)
+pub least_ints : (m n : ℕ) → is_true (binary (Compare Ge Binary) (Int (pos m)) (Int (pos n))) ≡ is_least (nat_cmp m n)
 unfolding binary
 least_ints m n = truth_of _ ∙ ap is_least (value_cmp-Int (pos m) (pos n) ∙ as_ints m n _ refl)
 
@@ -135,7 +135,7 @@ compared Greater m n e = (λ l. let low : n < m = ranked m n Greater (sym e) in 
 is_at_most : (m n : ℕ) → m ≤ n → is_most (nat_cmp m n) ≡ true
 is_at_most m n l = (compared (nat_cmp m n) m n refl).0 l
 
-is_at_least : (m n : ℕ) → n ≤ m → is_least (nat_cmp m n) ≡ true
+pub is_at_least : (m n : ℕ) → n ≤ m → is_least (nat_cmp m n) ≡ true
 is_at_least m n l = (compared (nat_cmp m n) m n refl).1 l
 
 -- ---- lists

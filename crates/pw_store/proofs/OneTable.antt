@@ -1,4 +1,4 @@
--- What a DELETE of the rows with a key, an UPDATE of the row with one, and an INSERT of a row make of one of our tables.
+-- What a DELETE of the rows with a key, an UPDATE of the row with one, and an INSERT of rows make of one of our tables.
 use Rattle.std.proofs.Common.{◌≡◌, ◌⊎◌, inl, inr, ℕ, ◌/◌, List, [], ◌∷◌, map, length, find, Bool, true, false, not, ◌&&◌, Option, Some, None, unwrap_or, Ok, arith, refl, sym, ap, subst, subst₂, ◌∙◌}
 use Rattle.std.proofs.lemmas.Bool.{cases_Bool}
 use Rattle.std.specs.List.{AllByRecursion, list_all, filter}
@@ -64,10 +64,14 @@ HasSet table tests makes params count old new =
     × ((rows : List Row) × Answers (record { schema = ours_with only_one; trees = old.now.trees }) (program_of table tests makes) params rows
     × Applies (ours_with only_one) (mode_of old).keys old.now.trees (set_by old.now.trees table rows) new.now.trees × (count ≡ length (set_by old.now.trees table rows).news))
 
--- this row was put into the table
+-- these rows were put into the table
+abbrev pub HasInsertedAll : Table → List Row → State → State → Type 0
+HasInsertedAll table rows old new =
+    (new.now.schema ≡ ours_with only_one) × Applies (ours_with only_one) (mode_of old).keys old.now.trees (edit_of old.now.trees (uncounted table) [] Chosen 0 rows) new.now.trees
+
+-- this one was
 abbrev pub HasInserted : Table → Row → State → State → Type 0
-HasInserted table row old new =
-    (new.now.schema ≡ ours_with only_one) × Applies (ours_with only_one) (mode_of old).keys old.now.trees (edit_of old.now.trees (uncounted table) [] Chosen 0 (row ∷ [])) new.now.trees
+HasInserted table row = HasInsertedAll table (row ∷ [])
 
 -- at its place in the list of tables a command works on the rows of this table
 abbrev IsOnRows : List ℕ → Table → Row → Command → State → Type 0
@@ -109,13 +113,17 @@ module _ (text : List ℕ) (at : ℕ) (params : Row) (old new : State) (ours : I
       (on_rows _ (subst (λ s. Does old.step_limit (mode_of old) params (record old.now { schema = s }) (statement_of text (understood (ours_with only_one) text)) None command (Ok (w.tally, new.now))) ours w.changed)) in
       (got.0, (got.1.0, got.1.1, got.1.2, w.counted ∙ ap (λ n. unwrap_or n 0) got.1.3))
 
-  pub inserts : (width : ℕ) (terms : List Term) (row : Row) → IsInsert text at width terms → IsOnRows text table params (Insert at (Values terms width)) old
-      → ((news : List Row) → works (ours_with only_one) (mode_of old).keys 0 table.tree [] news ≡ []) → value_rows (stamped table params) width (length terms / width) terms ≡ row ∷ [] → HasInserted table row old new
-  inserts width terms row it on_rows quiet values =
+  pub inserts_all : (width : ℕ) (terms : List Term) (rows : List Row) → IsInsert text at width terms → IsOnRows text table params (Insert at (Values terms width)) old
+      → ((news : List Row) → works (ours_with only_one) (mode_of old).keys 0 table.tree [] news ≡ []) → value_rows (stamped table params) width (length terms / width) terms ≡ rows → HasInsertedAll table rows old new
+  inserts_all width terms rows it on_rows quiet values =
       let command = Insert at (Values terms width) in
       let w = runs_as text params old new (ours_with only_one) ours command (it.is only_one) (it.plain only_one) count h in
-      one_insert old.step_limit (mode_of old).keys (ours_with only_one) table params (mode_of old) old.now.trees at width terms (row ∷ []) w.tally new.now values quiet
+      one_insert old.step_limit (mode_of old).keys (ours_with only_one) table params (mode_of old) old.now.trees at width terms rows w.tally new.now values quiet
       (on_rows _ (subst (λ s. Does old.step_limit (mode_of old) params (record old.now { schema = s }) (statement_of text (understood (ours_with only_one) text)) None command (Ok (w.tally, new.now))) ours w.changed))
+
+  pub inserts : (width : ℕ) (terms : List Term) (row : Row) → IsInsert text at width terms → IsOnRows text table params (Insert at (Values terms width)) old
+      → ((news : List Row) → works (ours_with only_one) (mode_of old).keys 0 table.tree [] news ≡ []) → value_rows (stamped table params) width (length terms / width) terms ≡ row ∷ [] → HasInserted table row old new
+  inserts width terms row = inserts_all width terms (row ∷ [])
 
 nothing : (rows : List Row) → length rows ≡ 0 → rows ≡ []
 nothing [] few = refl

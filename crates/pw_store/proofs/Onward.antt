@@ -1,5 +1,5 @@
 -- One change within an upload behind another.
-use Rattle.std.proofs.Common.{◌≡◌, ℕ, ◌+◌, Result, Ok, Err, ap, sym, ◌∙◌, arith}
+use Rattle.std.proofs.Common.{◌≡◌, ℕ, ◌+◌, Result, Ok, Err, ap, refl, sym, ◌∙◌, arith}
 use Rattle.sqlite_trees.specs.declared.store.Store.{Ghosts}
 use Rattle.pw_shelf.specs.declared.fault.ShelfFault.{ShelfFault}
 use Rattle.pw_shelf.specs.Calls.{failures_in, failures_told}
@@ -7,6 +7,18 @@ use Rattle.pw_store.specs.declared.shelf.SqlShelf.{SqlShelf}
 use Rattle.pw_store.specs.inner.AllElse.{KeepsElse}
 
 module _ {S : Type 0} (store : Ghosts S) where
+  pub on_itself : (a : SqlShelf S store) → KeepsElse {X = Unit {0}} store (Ok tt) a a
+  on_itself a = record {
+    begun = refl;
+    base = refl;
+    opened = refl;
+    failures = omega arith;
+    abandons = refl;
+    tally = refl;
+    left = λ clean d l. l;
+    clean = λ clean. clean;
+  }
+
   pub on_then : {X Y : Type 0} (x : X) (answer : Result Y ShelfFault) (a b c : SqlShelf S store) → KeepsElse {X = X} store (Ok x) a b → KeepsElse store answer b c → KeepsElse store answer a c
   on_then x answer a b c f g = record {
     begun = g.begun ∙ f.begun;

@@ -30,6 +30,8 @@ use Rattle.pw_schema.specs.declared.kind.RecordKind.{RecordKind}
 use Rattle.pw_schema.specs.declared.kind.RecordKind.TheVariants.{Readings, Assignments, TopUps, WithdrawnReadings, WithdrawnAssignments, WithdrawnTopUps}
 use Rattle.pw_schema.specs.declared.kind.StoreVersion.TheVariants.{Third}
 use Rattle.pw_store.specs.Content.{content_of, records_of, kinds_of, tree_of, IsRowOf, energy_in, payment_in, IsReadingRow, IsAssignmentRow, point_in, start_in, total_in, energy_told, payment_told, point_tree, start_tree, total_tree, energy_tree, payment_tree}
+use Rattle.pw_store.specs.Waiting.{points_over, with_waiting}
+use Rattle.pw_store.specs.declared.waiting.WaitingPoint.{WaitingPoint}
 use Rattle.pw_store.specs.inner.Changing.{Makes, StillKeeps}
 use Rattle.pw_store.proofs.OfKinds.{same_among}
 
@@ -152,6 +154,15 @@ payments_with old new a v same told = λ i k. go k i
 pub content_with_point : (old new : Trees) (m : ℕ) (r : Register) (t : ℕ) (v : Option ℕ) → SameRecords old new → new start_tree ≡ old start_tree → new energy_tree ≡ old energy_tree → new payment_tree ≡ old payment_tree
     → point_in (new point_tree) ≡ points_with (point_in (old point_tree)) m r t v → content_of new ≡ with_point (content_of old) m r t v
 content_with_point old new m r t v same s e y told = λ i. record {
+  records = records_kept old new same i;
+  point = told i;
+  start = ap start_in s i;
+  total = same_totals old new e y i;
+}
+
+pub content_with_points : (old new : Trees) (waiting : List WaitingPoint) → SameRecords old new → new start_tree ≡ old start_tree → new energy_tree ≡ old energy_tree → new payment_tree ≡ old payment_tree
+    → point_in (new point_tree) ≡ points_over waiting (point_in (old point_tree)) → content_of new ≡ with_waiting waiting (content_of old)
+content_with_points old new waiting same s e y told = λ i. record {
   records = records_kept old new same i;
   point = told i;
   start = ap start_in s i;

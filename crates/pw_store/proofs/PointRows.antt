@@ -1,5 +1,5 @@
 -- What DELETE and INSERT make of the points.
-use Rattle.std.proofs.Common.{◌≡◌, ℕ, pos, List, [], ◌∷◌, find, Bool, true, false, not, ◌&&◌, Some, None, Ok, Err, Result, OnOk, IsTrue, refl, sym, ap, subst, ◌∙◌, inl, nat_cmp, arith}
+use Rattle.std.proofs.Common.{◌≡◌, ℕ, pos, List, [], ◌∷◌, ◌++◌, drop, map, find, Bool, true, false, not, ◌&&◌, None, Ok, Err, Result, OnOk, IsTrue, refl, sym, ap, subst, ◌∙◌, inl, nat_cmp, arith}
 use Rattle.std.specs.List.{AllByRecursion, list_all, filter}
 use Rattle.std.specs.Ordering.{is_eq}
 use Rattle.sqlite.specs.declared.types.Value.TheVariants.{Null, Int}
@@ -7,16 +7,19 @@ use Rattle.sqlite.specs.declared.error.Error.{Error}
 use Rattle.sqlite.specs.Order.{Row, column}
 use Rattle.sqlite.specs.Term.{Term, holds}
 use Rattle.sqlite.specs.Table.{Table}
-use Rattle.sqlite.specs.Tree.{put_row}
-use Rattle.sqlite.specs.Edit.{is_taken, next_rowid}
-use Rattle.sqlite.specs.State.{State, Executes}
+use Rattle.sqlite.specs.Tree.{put_row, rowid}
+use Rattle.sqlite.specs.Edit.{are_fresh, is_taken, next_rowid, numbered, put_all}
+use Rattle.sqlite.specs.Cast.{cast_row}
+use Rattle.sqlite.specs.Rowids.TheVariants.{Chosen}
+use Rattle.sqlite.specs.State.{State, Executes, Shows}
 use Rattle.sqlite_schema.specs.declared.schema.Constraint.TheVariants.{Unique}
 use Rattle.sqlite_schema.specs.Rules as rule
-use Rattle.sqlite_schema.specs.Rules.{agree, clashes}
+use Rattle.sqlite_schema.specs.Rules.{agree, clashes, differ}
 use Rattle.sqlite_trees.proofs.ListLemmas.{all_weaker}
 use Rattle.sqlite_value.specs.Keys.{first_key, plain}
 use Rattle.pw_obis.specs.declared.reference.Register.{Register}
 use Rattle.pw_tariff.specs.Office.{register_place}
+use Rattle.pw_model.specs.declared.records.Key.{Key}
 use Rattle.pw_model.specs.declared.records.Key.TheVariants as key
 use Rattle.pw_model.specs.Counting.{reading_key}
 use Rattle.pw_model.specs.Same.{same_key}
@@ -25,20 +28,22 @@ use Rattle.pw_shelf.specs.Changes.{points_with, with_point}
 use Rattle.pw_schema.specs.Tables.{only_one, ours_with, point_at}
 use Rattle.pw_schema.specs.Rows.{number, register_at}
 use Rattle.pw_store.specs.Content.{energy_in, payment_in, IsReadingRow, IsAssignmentRow, point_in}
+use Rattle.pw_store.specs.Waiting.{points_over, with_one, with_waiting}
+use Rattle.pw_store.specs.declared.waiting.WaitingPoint.{WaitingPoint}
 use Rattle.pw_store.specs.inner.Records.{reading_row}
 use Rattle.pw_store.specs.Keyed.{AreKeyed, IsEnergyRow, IsPaymentRow}
 use Rattle.pw_store.specs.Kept.{IsStore, key_in_point, key_in_start}
 use Rattle.pw_store.specs.inner.Changing.{Makes}
 use Rattle.pw_store.proofs.Texts.{four_terms}
-use Rattle.pw_store.proofs.KeptTexts.{delete_point_text, delete_point_query, delete_point_is, insert_point_text, insert_point_is}
+use Rattle.pw_store.proofs.KeptTexts.{delete_point_text, delete_point_query, delete_point_is, insert_point_text, insert_point_is, insert_points_text, insert_points_is, points_terms}
 use Rattle.pw_store.proofs.Scans.{equal_ints, tied}
 use Rattle.pw_store.proofs.Finding.{first, second, same_number, meter_of, register_of, second_of}
 use Rattle.pw_store.proofs.Adding.{cast_null, cast_int, register_back, insert_inside, was_not}
 use Rattle.pw_store.proofs.StillKept.{keeps_sums}
-use Rattle.pw_store.proofs.Others.{AreElseSame, same_records, store_kept, content_with_point}
-use Rattle.pw_store.proofs.Clashing.{key_free, of_new}
+use Rattle.pw_store.proofs.Others.{AreElseSame, same_records, store_kept, content_with_point, content_with_points}
+use Rattle.pw_store.proofs.Clashing.{all_earlier, key_free, none_earlier, of_new}
 use Rattle.pw_store.proofs.KeptRows.{gone_told, put_told, keyed_gone, keyed_put}
-use Rattle.pw_store.proofs.OneTable.{HasDeleted, HasInserted, deletes, inserts, others_left}
+use Rattle.pw_store.proofs.OneTable.{HasDeleted, HasInsertedAll, deletes, inserts_all, others_left}
 use Rattle.pw_store.proofs.Taking.{edit_inside, both_true}
 
 abbrev pub at_key : ℕ → Register → ℕ → Row → Bool
@@ -108,65 +113,129 @@ module _ (old new : State) (m : ℕ) (g : Register) (i : ℕ) (count : ℕ) (sto
   }
 
 -- ---- INSERT
-module _ (old new : State) (m : ℕ) (g : Register) (i : ℕ) (v : ℕ) (count : ℕ) (store : IsStore old.now) (inside : IsTrue old.in_transaction) (h : Executes insert_point_text (reading_row m (register_place g) i v) old new (Ok count)) where
-  abbrev checks : List Term
-  checks = only_one
+abbrev given : WaitingPoint → Row
+given p = reading_row p.meter.0 (register_place p.register) p.instant p.wh
 
-  abbrev given : Row
-  given = reading_row m (register_place g) i v
+abbrev pub given_all : List WaitingPoint → List Row
+given_all = map (λ p. Null ∷ given p)
 
-  inserted : HasInserted table (Null ∷ given) old new
-  inserted = inserts insert_point_text 4 given old new store.ours count h table 5 four_terms (Null ∷ given) insert_point_is (λ out does. does) (λ _. refl) refl
+-- the row of a point in the table that has these rows
+abbrev row_of : List Row → WaitingPoint → Row
+row_of rows p = Int (next_rowid rows) ∷ given p
 
+abbrev key_of : WaitingPoint → Key
+key_of p = reading_key p.meter.0 p.register p.instant
+
+abbrev at_point : WaitingPoint → Row → Bool
+at_point p = at_key p.meter.0 p.register p.instant
+
+abbrev clash : List Row → Row → Bool
+clash rows r = clashes plain (1 ∷ 2 ∷ 3 ∷ []) rows r
+
+-- the rows that are put, one behind another
+abbrev news : List Row → List WaitingPoint → List Row
+news rows points = numbered Chosen rows (given_all points)
+
+cast_all : (points : List WaitingPoint) → map (λ s. cast_row table (drop 0 s)) (given_all points) ≡ given_all points
+cast_all [] = refl
+cast_all (p ∷ points) =
+    let one : cast_row table (drop 0 (Null ∷ given p)) ≡ Null ∷ given p = rw (cast_null, cast_int p.meter.0, cast_int (register_place p.register), cast_int p.instant, cast_int p.wh) refl in
+    λ i. one i ∷ cast_all points i
+
+module _ (rows : List Row) (p : WaitingPoint) (keyed : AreKeyed IsReadingRow key_in_point rows) (free : is_taken rows (row_of rows p) ≡ false) (alone : clash (put_row (row_of rows p) rows) (row_of rows p) ≡ false) where
   abbrev row : Row
-  row = Int (next_rowid (old.now.trees 7)) ∷ given
+  row = row_of rows p
 
-  free : is_taken (old.now.trees 7) row ≡ false
-  free = let fresh = rw cast_null at inserted.1.fresh in was_not _ (first _ _ fresh)
+  key_is : key_in_point row ≡ key_of p
+  key_is = ap (λ (s : Register). reading_key p.meter.0 s p.instant) (register_back p.register)
 
-  put : new.now.trees 7 ≡ put_row row (old.now.trees 7)
-  put = inserted.1.rows ∙ rw (cast_null, cast_int m, cast_int (register_place g), cast_int i, cast_int v) refl
+  agrees_at : (r : Row) → IsReadingRow r → agree plain (1 ∷ 2 ∷ 3 ∷ []) r (1 ∷ 2 ∷ 3 ∷ []) row ≡ at_point p r
+  unfolding first_key
+  agrees_at r it = passes_at p.meter.0 p.register p.instant r it
 
-  key_is : key_in_point row ≡ reading_key m g i
-  key_is = ap (λ (s : Register). reading_key m s i) (register_back g)
+  unseen : find (at_point p) rows ≡ None
+  unseen =
+      let same = all_weaker IsReadingRow (λ r. agree plain (1 ∷ 2 ∷ 3 ∷ []) r (1 ∷ 2 ∷ 3 ∷ []) row ≡ at_point p r) agrees_at rows keyed.each in
+      key_free plain (1 ∷ 2 ∷ 3 ∷ []) (next_rowid rows) (given p) (at_point p) rows same keyed.ids free alone
+
+  told_put : point_in (put_row row rows) ≡ with_one (point_in rows) p
+  told_put = λ j n s u. put_told same_key same_key-decides key_in_point (λ x. number (column x 4)) (key_of p) (reading_key n s u) row rows key_is free unseen j
+
+  still_keyed : AreKeyed IsReadingRow key_in_point (put_row row rows)
+  still_keyed = keyed_put same_key same_key-decides key_in_point (λ x. number (column x 4)) IsReadingRow (key_of p) row rows key_is (refl, (ap (λ (s : Register). Int (pos (register_place s))) (sym (register_back p.register)), (refl, refl))) refl free unseen keyed
+
+-- what they tell, and that they are keyed still, where none of the rows at the end has the key of another
+abbrev IsPut : List WaitingPoint → List Row → List Row → Type 0
+IsPut points rows all = (point_in all ≡ points_over points (point_in rows)) × AreKeyed IsReadingRow key_in_point all
+
+all_put : (points : List WaitingPoint) (rows : List Row) → AreKeyed IsReadingRow key_in_point rows → are_fresh rows (news rows points) ≡ true
+    → AllByRecursion (λ r. clash (put_all rows (news rows points)) r ≡ false) (put_all rows (news rows points)) → IsPut points rows (put_all rows (news rows points))
+all_put [] rows keyed fresh apart = (refl, keyed)
+all_put (p ∷ points) rows keyed fresh apart =
+    let row = row_of rows p in
+    let free = was_not _ (first _ _ fresh) in
+    let fresh_rest = second _ _ fresh in
+    let last = put_all rows (news rows (p ∷ points)) in
+    let alone = none_earlier (λ r. agree plain (1 ∷ 2 ∷ 3 ∷ []) r (1 ∷ 2 ∷ 3 ∷ []) row && differ (rowid r) (rowid row)) (news (put_row row rows) points) (put_row row rows) fresh_rest
+    (of_new (λ r. clash last r ≡ false) row rows (all_earlier (λ r. clash last r ≡ false) (news (put_row row rows) points) (put_row row rows) fresh_rest apart)) in
+    let rest = all_put points (put_row row rows) (still_keyed rows p keyed free alone) fresh_rest apart in
+    (rest.0 ∙ ap (points_over points) (told_put rows p keyed free alone), rest.1)
+
+module _ (old new : State) (points : List WaitingPoint) (store : IsStore old.now) (inserted : HasInsertedAll table (given_all points) old new) (shows : Shows old new new.now old.committed true) where
+  abbrev before : List Row
+  before = old.now.trees 7
+
+  abbrev after : List Row
+  after = put_all before (news before points)
+
+  put : new.now.trees 7 ≡ after
+  put = inserted.1.rows ∙ ap (λ rows. put_all before (numbered Chosen before rows)) (cast_all points)
+
+  fresh : are_fresh before (news before points) ≡ true
+  fresh = subst (λ rows. are_fresh before (numbered Chosen before rows) ≡ true) (cast_all points) inserted.1.fresh
 
   -- the rule of the index holds of the rows as they are now
-  passed : rule.passes Unique (ours_with only_one) new.now.trees table row ≡ true
-  passed = of_new (λ r. rule.passes Unique (ours_with only_one) new.now.trees table r ≡ true) row (old.now.trees 7)
-      (subst (AllByRecursion (λ r. rule.passes Unique (ours_with only_one) new.now.trees table r ≡ true)) put (inserted.1.fits.rules Unique (λ e. absurd cc)).1.1.1.1.0)
+  apart : AllByRecursion (λ r. clash after r ≡ false) after
+  apart = subst (λ rows. AllByRecursion (λ r. clash rows r ≡ false) rows) put
+      (all_weaker (λ r. rule.passes Unique (ours_with only_one) new.now.trees table r ≡ true) (λ r. clash (new.now.trees 7) r ≡ false)
+      (λ r passed. (let unmet : (not (clash (new.now.trees 7) r) && true) ≡ true = passed in was_not _ (first _ _ unmet)))
+      (new.now.trees 7) (inserted.1.fits.rules Unique (λ e. absurd cc)).1.1.1.1.0)
 
-  alone : clashes plain (1 ∷ 2 ∷ 3 ∷ []) (put_row row (old.now.trees 7)) row ≡ false
-  alone =
-      let unmet : (not (clashes plain (1 ∷ 2 ∷ 3 ∷ []) (new.now.trees 7) row) && true) ≡ true = passed in
-      subst (λ rows. clashes plain (1 ∷ 2 ∷ 3 ∷ []) rows row ≡ false) put (was_not _ (first _ _ unmet))
+  is_put : IsPut points before after
+  is_put = all_put points before store.points fresh apart
 
-  agrees_at : (r : Row) → IsReadingRow r → agree plain (1 ∷ 2 ∷ 3 ∷ []) r (1 ∷ 2 ∷ 3 ∷ []) row ≡ at_key m g i r
-  unfolding first_key
-  agrees_at r it = passes_at m g i r it
-
-  unseen : find (at_key m g i) (old.now.trees 7) ≡ None
-  unseen =
-      let same = all_weaker IsReadingRow (λ r. agree plain (1 ∷ 2 ∷ 3 ∷ []) r (1 ∷ 2 ∷ 3 ∷ []) row ≡ at_key m g i r) agrees_at (old.now.trees 7) store.points.each in
-      key_free plain (1 ∷ 2 ∷ 3 ∷ []) (next_rowid (old.now.trees 7)) given (at_key m g i) (old.now.trees 7) same store.points.ids free alone
-
-  elsewhere : AreElseSame checks 7 old.now.trees new.now.trees
+  elsewhere : AreElseSame only_one 7 old.now.trees new.now.trees
   elsewhere = inserted.1.tables
 
-  told_put : point_in (new.now.trees 7) ≡ points_with (point_in (old.now.trees 7)) m g i (Some v)
-  told_put = λ j n s u. (ap (λ rows. point_in rows n s u) put ∙ put_told same_key same_key-decides key_in_point (λ x. number (column x 4)) (reading_key m g i) (reading_key n s u) row (old.now.trees 7) key_is free unseen) j
+  told_all : point_in (new.now.trees 7) ≡ points_over points (point_in before)
+  told_all = ap point_in put ∙ is_put.0
 
-  pub puts : Makes (λ c. with_point c m g i (Some v)) old new
-  puts = record {
-    store = store_kept old.now new.now inserted.0 (same_records checks 7 old.now.trees new.now.trees (omega arith) (inl (omega arith)) elsewhere) store
-        (subst (AreKeyed IsReadingRow key_in_point) (sym put) (keyed_put same_key same_key-decides key_in_point (λ x. number (column x 4)) IsReadingRow (reading_key m g i) row (old.now.trees 7) key_is (refl, (ap (λ (s : Register). Int (pos (register_place s))) (sym (register_back g)), (refl, refl))) refl free unseen store.points))
+  pub puts_all : Makes (with_waiting points) old new
+  puts_all = record {
+    store = store_kept old.now new.now inserted.0 (same_records only_one 7 old.now.trees new.now.trees (omega arith) (inl (omega arith)) elsewhere) store
+        (subst (AreKeyed IsReadingRow key_in_point) (sym put) is_put.1)
         (subst (AreKeyed IsAssignmentRow key_in_start) (sym (elsewhere.1.1.1.1.1.0 (λ e. absurd (omega (arith, e))))) store.starts)
         (subst (AreKeyed IsEnergyRow energy_in) (sym (elsewhere.1.1.1.1.1.1.1.1.1.1.1.0 (λ e. absurd (omega (arith, e))))) store.energies)
         (subst (AreKeyed IsPaymentRow payment_in) (sym (elsewhere.1.1.1.1.1.1.1.0 (λ e. absurd (omega (arith, e))))) store.payments)
         (elsewhere.1.1.1.1.1.1.0 (λ e. absurd (omega (arith, e))));
-    keeps = keeps_sums checks _ old.now.trees new.now.trees _ inserted.1 (omega arith) (omega arith) (elsewhere.1.1.1.1.1.1.1.1.1.1.1.0 (λ e. absurd (omega (arith, e)))) (elsewhere.1.1.1.1.1.1.1.0 (λ e. absurd (omega (arith, e))));
-    content = content_with_point old.now.trees new.now.trees m g i (Some v) (same_records checks 7 old.now.trees new.now.trees (omega arith) (inl (omega arith)) elsewhere) (elsewhere.1.1.1.1.1.0 (λ e. absurd (omega (arith, e)))) (elsewhere.1.1.1.1.1.1.1.1.1.1.1.0 (λ e. absurd (omega (arith, e)))) (elsewhere.1.1.1.1.1.1.1.0 (λ e. absurd (omega (arith, e)))) told_put;
-    shows = insert_inside insert_point_text 4 5 four_terms insert_point_is old new store.ours given count h inside;
+    keeps = keeps_sums only_one _ old.now.trees new.now.trees _ inserted.1 (omega arith) (omega arith) (elsewhere.1.1.1.1.1.1.1.1.1.1.1.0 (λ e. absurd (omega (arith, e)))) (elsewhere.1.1.1.1.1.1.1.0 (λ e. absurd (omega (arith, e))));
+    content = content_with_points old.now.trees new.now.trees points (same_records only_one 7 old.now.trees new.now.trees (omega arith) (inl (omega arith)) elsewhere) (elsewhere.1.1.1.1.1.0 (λ e. absurd (omega (arith, e)))) (elsewhere.1.1.1.1.1.1.1.1.1.1.1.0 (λ e. absurd (omega (arith, e)))) (elsewhere.1.1.1.1.1.1.1.0 (λ e. absurd (omega (arith, e)))) told_all;
+    shows = shows;
   }
+
+-- by one statement, of a point and of as many as are put at once
+pub puts : (old new : State) (p : WaitingPoint) (count : ℕ) → IsStore old.now → IsTrue old.in_transaction → Executes insert_point_text (given p) old new (Ok count) → Makes (with_waiting (p ∷ [])) old new
+puts old new p count store inside h =
+    puts_all old new (p ∷ []) store (inserts_all insert_point_text 4 (given p) old new store.ours count h table 5 four_terms (given_all (p ∷ [])) insert_point_is (λ out does. does) (λ _. refl) refl)
+    (insert_inside insert_point_text 4 5 four_terms insert_point_is old new store.ours (given p) count h inside)
+
+abbrev pub four_given : WaitingPoint → WaitingPoint → WaitingPoint → WaitingPoint → Row
+four_given p q r s = given p ++ (given q ++ (given r ++ given s))
+
+pub puts_four : (old new : State) (p q r s : WaitingPoint) (count : ℕ) → IsStore old.now → IsTrue old.in_transaction → Executes insert_points_text (four_given p q r s) old new (Ok count) → Makes (with_waiting (p ∷ q ∷ r ∷ s ∷ [])) old new
+puts_four old new p q r s count store inside h =
+    puts_all old new (p ∷ q ∷ r ∷ s ∷ []) store (inserts_all insert_points_text 4 (four_given p q r s) old new store.ours count h table 5 points_terms (given_all (p ∷ q ∷ r ∷ s ∷ [])) insert_points_is (λ out does. does) (λ _. refl) refl)
+    (insert_inside insert_points_text 4 5 points_terms insert_points_is old new store.ours (four_given p q r s) count h inside)
 
 -- ---- whether it answered Ok or not
 pub takes_if : (old new : State) (m : ℕ) (g : Register) (i : ℕ) (r : Result ℕ Error) → IsStore old.now → IsTrue old.in_transaction → Executes delete_point_text (params m g i) old new r → OnOk r (Makes (λ c. with_point c m g i None) old new)

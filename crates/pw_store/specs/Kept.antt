@@ -1,6 +1,6 @@
 -- What is known of a store over SQL: of its connection, and of the connection as it was when the last upload ended.
 -- (Definitions of this project.)
-use Rattle.std.specs.Prelude.{◌≡◌, ℕ, Bool, true, false, cond, [], length, Option, Some, None, IsTrue, refl}
+use Rattle.std.specs.Prelude.{◌≡◌, ℕ, Bool, true, false, cond, [], length, Option, Some, None, List, IsTrue, refl}
 use Rattle.std.proofs.Math.Logic.{∥∥₁_elim}
 use Rattle.std.specs.List.{AllByRecursion}
 use mathlib.Core.HLevel.{⊥_prop}
@@ -16,6 +16,10 @@ use Rattle.pw_schema.specs.Tables.{IsOurs}
 use Rattle.pw_schema.specs.declared.kind.RecordKind.{RecordKind}
 use Rattle.pw_store.specs.Content.{content_of, IsReadingRow, IsAssignmentRow, IsRowOf, tree_of, reading_in, assignment_in, energy_in, payment_in, point_tree, start_tree, total_tree, energy_tree, payment_tree, records_of}
 use Rattle.pw_store.specs.Keyed.{AreKeyed, IsEnergyRow, IsPaymentRow}
+use Rattle.pw_store.specs.Frontier.{IsFrontier}
+use Rattle.pw_store.specs.declared.frontier.Frontier.{Frontier}
+use Rattle.pw_store.specs.Waiting.{with_waiting}
+use Rattle.pw_store.specs.declared.waiting.WaitingPoint.{WaitingPoint}
 
 -- a point is kept as a reading is, a start as an assignment
 abbrev pub key_in_point : Row → Key
@@ -67,14 +71,14 @@ IsAwake s doubtful = HasCleanDisk s → doubtful ≡ false → IsTrue s.is_open
 abbrev pub BaseIsCounted : Sql → ℕ → Sql → Type 0
 BaseIsCounted s held base = HasCleanDisk s → length (records_of base.committed.trees) ≡ held
 
--- so many stand inside a transaction
-abbrev pub NowIsCounted : Sql → ℕ → Type 0
-NowIsCounted s within = HasCleanDisk s → s.in_transaction ≡ true → length (records_of s.now.trees) ≡ within
+-- so many stand inside a transaction; and what is remembered of a register is so, while the connection is open
+abbrev pub NowIsKnown : Sql → ℕ → Option Frontier → Type 0
+NowIsKnown s within frontier = HasCleanDisk s → (s.in_transaction ≡ true → length (records_of s.now.trees) ≡ within) × (IsTrue s.is_open → IsFrontier frontier (records_of s.now.trees))
 
 -- ---- the three members
--- While the connection is open its tables are what is held. Once it is shut, that is what was committed last.
-abbrev pub held_of : Sql → Sql → ShelfContent
-held_of s base = content_of (cond s.is_open s.now.trees base.committed.trees)
+-- While the connection is open its tables tell what is written. Once it is shut, that is what was committed last.
+abbrev pub written_of : Sql → Sql → ShelfContent
+written_of s base = content_of (cond s.is_open s.now.trees base.committed.trees)
 
 abbrev pub begun_of : Bool → ShelfContent → Option ShelfContent
 begun_of true c = Some c
@@ -84,9 +88,10 @@ begun_of false c = None
 abbrev pub begun_with : Bool → Sql → Option ShelfContent
 begun_with begun base = begun_of begun (content_of base.committed.trees)
 
-abbrev pub state_of : Sql → Sql → Bool → ℕ → ℕ → ℕ → State
-state_of s base begun failures failed_abandons tally = record {
-  content = held_of s base;
+-- what is held is what is written, with the points that wait
+abbrev pub state_of : List WaitingPoint → Sql → Sql → Bool → ℕ → ℕ → ℕ → State
+state_of waiting s base begun failures failed_abandons tally = record {
+  content = with_waiting waiting (written_of s base);
   begun = begun_with begun base;
   failures = failures;
   failed_abandons = failed_abandons;
@@ -98,7 +103,7 @@ abbrev pub left_of : Sql → ShelfContent → Type 0
 left_of s c = (db : Trees) × s.may_leave db × (content_of db ≡ c)
 
 -- ---- the two laws
-pub once_held : (s base : Sql) → BaseIsOnce s base → NowIsStore s → HasCleanDisk s → EachOnce (held_of s base).records
+pub once_held : (s base : Sql) → BaseIsOnce s base → NowIsStore s → HasCleanDisk s → EachOnce (written_of s base).records
 once_held s base before now clean = go s.is_open refl
   where
     go : (b : Bool) → s.is_open ≡ b → EachOnce (records_of (cond b s.now.trees base.committed.trees))

@@ -12,8 +12,9 @@ use Rattle.pw_model.specs.Shelf.{ShelfContent}
 use Rattle.pw_shelf.specs.Left.{LeavesOnly}
 use Rattle.pw_schema.specs.Judging.{KeepsOffice}
 use Rattle.pw_schema.specs.Tables.{IsOurs}
-use Rattle.pw_store.specs.Kept.{held_of, left_of}
+use Rattle.pw_store.specs.Kept.{written_of, left_of}
 use Rattle.pw_store.specs.Opening.{KeepsText}
+use Rattle.pw_store.specs.Waiting.{with_waiting}
 use Rattle.pw_store.specs.declared.shelf.SqlShelf.{SqlShelf}
 
 -- a text is that of an office file whose rules are such
@@ -25,9 +26,13 @@ abbrev pub IsCleanAndOpen : State → Type 0
 IsCleanAndOpen s = HasCleanDisk s × IsTrue s.is_open
 
 module _ {S : Type 0} (store : Ghosts S) where
+  -- what it holds
+  abbrev pub held_in : SqlShelf S store → ShelfContent
+  held_in s = with_waiting s.waiting.items (written_of (state store s.conn) (state store s.base.value))
+
   -- what it holds is such
   abbrev pub Holds : (ShelfContent → Type 0) → SqlShelf S store → Type 0
-  Holds IsSuch s = HasCleanDisk (state store s.conn) → IsSuch (held_of (state store s.conn) (state store s.base.value))
+  Holds IsSuch s = HasCleanDisk (state store s.conn) → IsSuch (held_in s)
 
   -- what stood in its tables when it was opened is such
   abbrev pub WasOpened : (Trees → Type 0) → SqlShelf S store → Type 0
@@ -41,7 +46,7 @@ module _ {S : Type 0} (store : Ghosts S) where
   -- a crash leaves nothing but what it holds
   abbrev pub LeavesItAlone : SqlShelf S store → Type 0
   LeavesItAlone s =
-      HasCleanDisk (state store s.conn) → LeavesOnly (held_of (state store s.conn) (state store s.base.value)) (left_of (state store s.conn))
+      HasCleanDisk (state store s.conn) → LeavesOnly (held_in s) (left_of (state store s.conn))
 
   -- nothing was counted yet: no failure, no upload that couldn't be abandoned, no call and no row
   abbrev pub HasCountedNothing : SqlShelf S store → Type 0

@@ -11,9 +11,9 @@ ghost use Rattle.pw_schema.specs.Calls.{CommitStays, CommitStaysOnErr, KeepsAllB
 ghost use Rattle.pw_schema.specs.Raised.{HasSame, all_but_office};
 ghost use Rattle.pw_schema.specs.inner.Calls.{HasOurTables};
 ghost use Rattle.pw_store.specs.Content.{content_of};
-ghost use Rattle.pw_store.specs.Kept.{IsStore, held_of};
+ghost use Rattle.pw_store.specs.Kept.{IsStore};
 ghost use Rattle.pw_store.specs.Left.{AdoptionRefuses, IsOfText, MayBeAdopted};
-ghost use Rattle.pw_store.specs.OpenStore.{HasCountedNothing, Holds, HoldsText, IsCleanAndOpen, IsTextOf, LeavesItAlone, WasOpened};
+ghost use Rattle.pw_store.specs.OpenStore.{HasCountedNothing, Holds, HoldsText, IsCleanAndOpen, IsTextOf, LeavesItAlone, WasOpened, held_in};
 ghost use Rattle.pw_store.specs.inner.Connections.{CountsRecords, TellsRefusedRows};
 ghost use Rattle.pw_store.specs.inner.Opened.{HasAdopted, IsReplaced};
 
@@ -41,7 +41,7 @@ impl<S: Alter> SqlShelf<S> {
         requires text { (office : OfficeFile) × IsOfficeOf office_text.now office }
         requires idle { self.begun ≡ false }
         ensures same { IfOk result (Holds S.Store
-            (λ held. held ≡ held_of (state S.Store self.conn) (state S.Store self.base.value))) }
+            (λ held. held ≡ held_in S.Store self)) }
         ensures rows { IfOk result (λ s. HasCleanDisk (state S.Store s.conn)
             → HasSame all_but_office (state S.Store self.conn).committed.trees
             (state S.Store s.conn).now.trees) }
@@ -61,7 +61,7 @@ impl<S: Alter> SqlShelf<S> {
         ensures cause { IfErr result (λ e. HasCleanDisk (state S.Store e.1)
             → IsTextOf office_text.now
             (λ office. AdoptionRefuses office
-            (held_of (state S.Store self.conn) (state S.Store self.base.value))
+            (held_in S.Store self)
             (state S.Store self.conn).committed.trees e.0)) }
         ensures refused { IfErr result (λ e. HasCleanDisk (state S.Store e.1)
             → KeepsCommit (state S.Store self.conn) (state S.Store e.1)) }
@@ -85,7 +85,7 @@ impl<S: Alter> SqlShelf<S> {
     ) -> Result<SqlShelf<S>, (OpenFault, Connection<S>)>
         requires { self.begun ≡ false }
         ensures same { IfOk result (Holds S.Store
-            (λ held. held ≡ held_of (state S.Store self.conn) (state S.Store self.base.value))) }
+            (λ held. held ≡ held_in S.Store self)) }
         ensures rows { IfOk result (λ s. HasCleanDisk (state S.Store s.conn)
             → HasSame all_but_office (state S.Store self.conn).committed.trees
             (state S.Store s.conn).now.trees) }
@@ -103,7 +103,7 @@ impl<S: Alter> SqlShelf<S> {
         ensures left { IfOk result (LeavesItAlone S.Store) }
         ensures cause { IfErr result (λ e. HasCleanDisk (state S.Store e.1)
             → AdoptionRefuses (office_of office.now)
-            (held_of (state S.Store self.conn) (state S.Store self.base.value))
+            (held_in S.Store self)
             (state S.Store self.conn).committed.trees e.0) }
         ensures refused { IfErr result (λ e. HasCleanDisk (state S.Store e.1)
             → KeepsCommit (state S.Store self.conn) (state S.Store e.1)) }

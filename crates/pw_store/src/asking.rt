@@ -10,13 +10,15 @@ ghost use Rattle.pw_schema.specs.Rows.{ReadsRows};
 ghost use Rattle.pw_store.specs.inner.Connections.{HoldsStore};
 ghost use Rattle.pw_store.specs.inner.Lists.{IsKeptAs, ListsThese};
 ghost use Rattle.pw_store.specs.Content.{records_of};
+ghost use Rattle.pw_store.specs.Frontier.{IsFrontier};
 ghost use Rattle.pw_store.specs.Kept.{IsAwake, NowIsStore};
 
 use crate::fault::AskFault;
+use crate::frontier::{Frontier, excludes, is_of};
 use crate::keys::{RecordKey, contents_of_record, contents_of_withdrawal};
 use crate::listings::record_rows;
 use crate::liveness::wake;
-use crate::meters::{assignment_rows, reading_rows};
+use crate::meters::{assignment_rows, later_rows, reading_rows};
 use crate::records::{form_of, has_named};
 use pw_model::{Contents, Entry, Key};
 use pw_obis::Register;
@@ -45,20 +47,66 @@ fn has_entry<S: Alter>(
     }
 }
 
-// Whether a record is held.
+// What is known of the register of a record: what was, if it was of that register, and else what is asked.
+fn frontier_for<S: Alter>(
+    conn: &mut Connection<S>,
+    doubtful: bool,
+    entry: &Entry,
+    known: Option<Frontier>,
+) -> Result<Option<Frontier>, Error>
+    requires awake { IsAwake (state S.Store conn.old) doubtful }
+    requires store { NowIsStore (state S.Store conn.old) }
+    ensures known { HasCleanDisk (state S.Store conn.new)
+        → IsFrontier known (records_of (state S.Store conn.old).now.trees)
+        → IfOk result (λ now. IsFrontier now (records_of (state S.Store conn.old).now.trees)) }
+    ensures asks { Asks result (state S.Store conn.old) (state S.Store conn.new) }
+{
+    wake(conn, doubtful)?;
+    let Key::Reading {
+        meter,
+        register,
+        instant,
+    } = entry.key
+    else {
+        return Ok(known);
+    };
+    if is_of(&known, meter, register) {
+        return Ok(known);
+    }
+    let rows = later_rows(conn, meter, register, instant)?;
+    let from = if rows.is_empty() { Some(instant) } else { None };
+    Ok(Some(Frontier {
+        meter,
+        register,
+        from,
+    }))
+}
+
+// Whether a record is held, and what is known of its register then.
 pub(crate) fn holds<S: Alter>(
     conn: &mut Connection<S>,
     doubtful: bool,
     entry: &Entry,
-) -> Result<bool, AskFault>
+    known: Option<Frontier>,
+) -> Result<(bool, Option<Frontier>), AskFault>
     requires awake { IsAwake (state S.Store conn.old) doubtful }
     requires store { NowIsStore (state S.Store conn.old) }
+    requires known { HasCleanDisk (state S.Store conn.old)
+        → IsFrontier known (records_of (state S.Store conn.old).now.trees) }
     ensures found { HasCleanDisk (state S.Store conn.new)
-        → IfOk result (λ held. IsTrue held
+        → IfOk result (λ told. IsTrue told.0
         ↔ Member entry.now (records_of (state S.Store conn.old).now.trees)) }
+    ensures known { HasCleanDisk (state S.Store conn.new)
+        → IfOk result (λ told. IsFrontier told.1
+        (records_of (state S.Store conn.old).now.trees)) }
     ensures asks { Asks result (state S.Store conn.old) (state S.Store conn.new) }
 {
-    Ok(has_entry(conn, doubtful, entry)?)
+    let known = frontier_for(conn, doubtful, entry, known)?;
+    if excludes(&known, entry) {
+        return Ok((false, known));
+    }
+    let held = has_entry(conn, false, entry)?;
+    Ok((held, known))
 }
 
 // What the records held say of a key.

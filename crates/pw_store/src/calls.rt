@@ -11,9 +11,11 @@ use crate::asking::{Listed, contents, holds, list_records};
 use crate::changes::Change;
 use crate::entries::add_entry;
 use crate::fault::{device_fault, fault_of, fault_of_ask};
+use crate::frontier::behind;
 use crate::points::Side;
 use crate::questions::{nearest, points_between, starts_of, total};
 use crate::shelf::SqlShelf;
+use crate::waiting::WaitingPoint;
 use pw_model::{Contents, Entry, Key, TotalKey};
 use pw_obis::{Register, WattHours};
 use pw_schema::roll_back;
@@ -36,6 +38,7 @@ macro_rules! answered {
             Err(fault) => {
                 $store.tally.tick(0);
                 $store.doubtful = true;
+                $store.frontier = None;
                 Err(fault_of_ask(fault, &mut $store.failures))
             }
         }
@@ -43,7 +46,7 @@ macro_rules! answered {
 }
 
 impl<S: Alter> Shelf for SqlShelf<S> {
-    ghost state = { λ s. state_of (state S.Store s.conn) (state S.Store s.base.value) s.begun s.failures.count s.failed_abandons.count s.tally.count };
+    ghost state = { λ s. state_of s.waiting.items (state S.Store s.conn) (state S.Store s.base.value) s.begun s.failures.count s.failed_abandons.count s.tally.count };
 
     ghost left = { λ s. left_of (state S.Store s.conn) };
 
@@ -62,26 +65,43 @@ impl<S: Alter> Shelf for SqlShelf<S> {
     fn abandon(&mut self) -> Result<(), ShelfFault> {
         self.tally.tick(0);
         if self.conn.is_autocommit() {
+            self.waiting.clear();
             self.begun = false;
             return Ok(());
         }
         match roll_back(&mut self.conn) {
             Ok(()) => {
+                self.waiting.clear();
                 self.begun = false;
                 self.doubtful = true;
+                self.frontier = None;
                 Ok(())
             }
             Err(error) => {
                 self.failed_abandons.tick(0);
                 self.doubtful = true;
+                self.frontier = None;
                 Err(fault_of(error, &mut self.failures))
             }
         }
     }
 
     fn holds(&mut self, entry: &Entry) -> Result<bool, ShelfFault> {
-        let asked = holds(&mut self.conn, self.doubtful, entry);
-        answered!(self, asked, held, 0)
+        let known = self.known_frontier();
+        let asked = holds(&mut self.conn, self.doubtful, entry, known);
+        self.tally.tick(0);
+        match asked {
+            Ok((held, frontier)) => {
+                self.doubtful = false;
+                self.frontier = frontier;
+                Ok(held)
+            }
+            Err(fault) => {
+                self.doubtful = true;
+                self.frontier = None;
+                Err(fault_of_ask(fault, &mut self.failures))
+            }
+        }
     }
 
     fn contents_at(&mut self, key: &Key) -> Result<Contents, ShelfFault> {
@@ -97,11 +117,13 @@ impl<S: Alter> Shelf for SqlShelf<S> {
         match add_entry(&mut self.conn, entry) {
             Ok(true) => {
                 self.within = self.within.saturating_add(1);
+                self.frontier = behind(self.frontier, entry);
                 Ok(())
             }
             Ok(false) => Err(device_fault(&mut self.failures)),
             Err(error) => {
                 self.doubtful = true;
+                self.frontier = None;
                 Err(fault_of(error, &mut self.failures))
             }
         }
@@ -146,7 +168,12 @@ impl<S: Alter> Shelf for SqlShelf<S> {
         wh: WattHours,
     ) -> Result<(), ShelfFault> {
         self.tally.tick(0);
-        self.put_point(meter, register, instant, wh)
+        self.put_point(WaitingPoint {
+            meter,
+            register,
+            instant,
+            wh,
+        })
     }
 
     fn point_del(
@@ -156,12 +183,7 @@ impl<S: Alter> Shelf for SqlShelf<S> {
         instant: Instant,
     ) -> Result<(), ShelfFault> {
         self.tally.tick(0);
-        self.change(Change::TakePoint {
-            meter,
-            register,
-            instant,
-        })?;
-        Ok(())
+        self.take_point(meter, register, instant)
     }
 
     fn point_before(
@@ -171,7 +193,14 @@ impl<S: Alter> Shelf for SqlShelf<S> {
         instant: Instant,
     ) -> Result<Option<(Instant, WattHours)>, ShelfFault> {
         let side = Side::Before(instant);
-        let before = nearest(&mut self.conn, self.doubtful, meter, register, side);
+        let before = nearest(
+            &mut self.conn,
+            self.doubtful,
+            self.waiting.as_slice(),
+            meter,
+            register,
+            side,
+        );
         answered!(self, before, found, rows_found(&found))
     }
 
@@ -182,7 +211,14 @@ impl<S: Alter> Shelf for SqlShelf<S> {
         instant: Instant,
     ) -> Result<Option<(Instant, WattHours)>, ShelfFault> {
         let side = Side::Behind(instant);
-        let behind = nearest(&mut self.conn, self.doubtful, meter, register, side);
+        let behind = nearest(
+            &mut self.conn,
+            self.doubtful,
+            self.waiting.as_slice(),
+            meter,
+            register,
+            side,
+        );
         answered!(self, behind, found, rows_found(&found))
     }
 
@@ -194,6 +230,10 @@ impl<S: Alter> Shelf for SqlShelf<S> {
         from: Instant,
         to: Instant,
     ) -> Result<Vec<(Instant, WattHours)>, ShelfFault> {
+        if let Err(fault) = self.write_within(meter, register, from, to) {
+            self.tally.tick(0);
+            return Err(fault);
+        }
         let asked = points_between(
             &mut self.conn,
             self.doubtful,

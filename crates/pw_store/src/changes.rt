@@ -1,4 +1,4 @@
-//! What is changed of points, starts and totals, one row at a time.
+//! What is changed of points, starts and totals, by one statement.
 
 ghost use Rattle.std.specs.Prelude.{IfOk};
 ghost use Rattle.sqlite.specs.Held.{state};
@@ -7,18 +7,19 @@ ghost use Rattle.pw_schema.specs.Calls.{Writes};
 ghost use Rattle.pw_store.specs.inner.Changing.{Fits, IsFree, IsTaken, Makes, changed};
 ghost use Rattle.pw_store.specs.inner.Connections.{HasBegun, HoldsStore};
 
-use crate::points::{put_point, take_point};
+use crate::points::{put_four, put_point, take_point};
 use crate::starts::{put_start, take_start};
 use crate::total_statements::{put_total, set_total, take_total};
+use crate::waiting::WaitingPoint;
 use pw_model::TotalKey;
-use pw_obis::{Register, WattHours};
+use pw_obis::Register;
 use pw_tariff::{MeterId, Owner};
 use pw_time::Instant;
 use sqlite::{Alter, Connection, Error};
 
-// One row that is taken away by its key, one that is put where none has its key, or an amount that is set in the row
-// that has its key. Where no row has the key of what is to be taken or set, or where one has the key of a point that is
-// to be put, nothing changes.
+// One row that is taken away by its key, one that is put where none has its key, four of points likewise, or an amount
+// that is set in the row that has its key. Where no row has the key of what is to be taken or set, or where one has the
+// key of a point that is to be put, nothing changes.
 #[derive(Clone, Copy)]
 pub(crate) enum Change {
     TakePoint {
@@ -27,10 +28,13 @@ pub(crate) enum Change {
         instant: Instant,
     },
     PutPoint {
-        meter: MeterId,
-        register: Register,
-        instant: Instant,
-        wh: WattHours,
+        point: WaitingPoint,
+    },
+    PutFour {
+        first: WaitingPoint,
+        second: WaitingPoint,
+        third: WaitingPoint,
+        fourth: WaitingPoint,
     },
     TakeStart {
         meter: MeterId,
@@ -74,12 +78,13 @@ pub(crate) fn make<S: Alter>(conn: &mut Connection<S>, change: Change) -> Result
             register,
             instant,
         } => take_point(conn, meter, register, instant),
-        Change::PutPoint {
-            meter,
-            register,
-            instant,
-            wh,
-        } => put_point(conn, meter, register, instant, wh),
+        Change::PutPoint { point } => put_point(conn, point),
+        Change::PutFour {
+            first,
+            second,
+            third,
+            fourth,
+        } => put_four(conn, first, second, third, fourth),
         Change::TakeStart { meter, start } => take_start(conn, meter, start),
         Change::PutStart {
             meter,

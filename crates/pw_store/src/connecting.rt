@@ -1,6 +1,6 @@
 //! Opening a connection as a store, and closing it.
 
-ghost use Rattle.std.specs.Prelude.{◌≡◌, ◌⊎◌, IfOk, IfErr, IsTrue, false, ◌≤◌, length};
+ghost use Rattle.std.specs.Prelude.{◌≡◌, ◌⊎◌, IfOk, IfErr, IsTrue, false, ◌≤◌, length, []};
 ghost use Rattle.sqlite.specs.Held.{state};
 ghost use Rattle.sqlite.specs.State.{HasCleanDisk, KeepsCommit, Survives};
 ghost use Rattle.pw_tariff.specs.Office.{OfficeFile, office_of};
@@ -19,6 +19,7 @@ use crate::fault::OpenFault;
 use crate::opening::prepare;
 use crate::shelf::SqlShelf;
 use crate::watch::{Unwatched, Watch};
+use arrayvec::ArrayVec;
 use pw_shelf::Tally;
 use pw_tariff::Office;
 use sqlite::{Alter, Connection};
@@ -158,6 +159,7 @@ impl<S: Alter> SqlShelf<S> {
         ensures base { result.base.value ≡ connection }
         ensures opened { result.opened.value ≡ connection }
         ensures idle { result.begun ≡ false }
+        ensures none { result.waiting.items ≡ [] }
         ensures counts { (result.failures.count ≡ 0) × (result.failed_abandons.count ≡ 0)
             × (result.tally.count ≡ 0) }
     {
@@ -176,6 +178,8 @@ impl<S: Alter> SqlShelf<S> {
             failures: zero(),
             failed_abandons: zero(),
             tally: zero(),
+            frontier: None,
+            waiting: ArrayVec::new(),
         }
     }
 
@@ -185,7 +189,7 @@ impl<S: Alter> SqlShelf<S> {
         ensures committed { HasCleanDisk (state S.Store result)
             → IsTrue (state S.Store result).is_open
             → content_of (state S.Store result).committed.trees
-            ≡ committed (state_of (state S.Store self.conn) (state S.Store self.base.value)
+            ≡ committed (state_of self.waiting.items (state S.Store self.conn) (state S.Store self.base.value)
             self.begun self.failures.count self.failed_abandons.count self.tally.count) }
     {
         self.into_connection()

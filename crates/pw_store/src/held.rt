@@ -1,11 +1,15 @@
-//! How many records are held.
+//! What is known of the records held without a statement.
 
 ghost use Rattle.std.specs.Prelude.{◌≡◌, ◌+◌, length};
 ghost use Rattle.sqlite.specs.Held.{state};
 ghost use Rattle.sqlite.specs.State.{HasCleanDisk};
 ghost use Rattle.pw_shelf.specs.Left.{LeavesNoMore};
-ghost use Rattle.pw_store.specs.Kept.{begun_with, held_of, left_of};
+ghost use Rattle.pw_store.specs.Content.{records_of};
+ghost use Rattle.pw_store.specs.Frontier.{IsFrontier};
+ghost use Rattle.pw_store.specs.Kept.{begun_with, left_of};
+ghost use Rattle.pw_store.specs.OpenStore.{held_in};
 
+use crate::frontier::Frontier;
 use crate::shelf::SqlShelf;
 use sqlite::Alter;
 
@@ -13,10 +17,9 @@ impl<S: Alter> SqlShelf<S> {
     // No statement is run: the number is kept, also of a connection that is shut.
     pub(crate) fn number_held(&mut self) -> u32
         ensures number { HasCleanDisk (state S.Store self.new.conn)
-            → result ≡ length (held_of (state S.Store self.old.conn)
-            (state S.Store self.old.base.value)).records }
-        ensures same { held_of (state S.Store self.new.conn) (state S.Store self.new.base.value)
-            ≡ held_of (state S.Store self.old.conn) (state S.Store self.old.base.value) }
+            → result ≡ length (held_in S.Store self.old).records }
+        ensures same { held_in S.Store self.new
+            ≡ held_in S.Store self.old }
         ensures begun { begun_with self.new.begun (state S.Store self.new.base.value)
             ≡ begun_with self.old.begun (state S.Store self.old.base.value) }
         ensures left { HasCleanDisk (state S.Store self.new.conn)
@@ -34,5 +37,16 @@ impl<S: Alter> SqlShelf<S> {
             return self.held;
         }
         self.within
+    }
+
+    // What is known of a register, where the connection is known to be open.
+    pub(crate) fn known_frontier(&self) -> Option<Frontier>
+        ensures { HasCleanDisk (state S.Store self.entry.now.conn)
+            → IsFrontier result (records_of (state S.Store self.entry.now.conn).now.trees) }
+    {
+        if self.doubtful {
+            return None;
+        }
+        self.frontier
     }
 }

@@ -2,7 +2,7 @@
 //!
 //! No function does anything but call. What counts is its contract.
 
-ghost use Rattle.std.specs.Prelude.{◌≡◌, ◌⊎◌, ◌↔◌, IfErr, IfOk, IsTrue};
+ghost use Rattle.std.specs.Prelude.{◌≡◌, ◌⊎◌, ◌↔◌, IfErr, IfOk, IsTrue, None};
 ghost use Rattle.sqlite.specs.Held.{state};
 ghost use Rattle.sqlite.specs.State.{HasCleanDisk};
 ghost use Rattle.sqlite.specs.Tree.{Trees};
@@ -13,6 +13,7 @@ ghost use Rattle.pw_shelf.specs.State.{committed};
 ghost use Rattle.pw_store.specs.Content.{content_of};
 ghost use Rattle.pw_store.specs.Left.{AdoptedHolds, AdoptedOpens, IsLeftBehind, LeftOpens, UpgradedHolds, UpgradedOpens};
 ghost use Rattle.pw_store.specs.Opening.{OpenableOpens};
+ghost use Rattle.pw_store.specs.Waiting.{with_waiting};
 
 use crate::fault::OpenFault;
 use crate::shelf::SqlShelf;
@@ -21,11 +22,16 @@ use sqlite::{Alter, Connection};
 use std::alloc::Global;
 
 /// A store over SQL is clean exactly where the disk has returned what was written to it; while the connection is open its
-/// tables are what is held; and a crash leaves exactly the contents of the databases that sqlite may leave.
+/// tables are what is held, and within an upload the points that wait to be written are so beside them; and a crash leaves
+/// exactly the contents of the databases that sqlite may leave.
 pub fn store_is_its_tables<S: Alter>(shelf: SqlShelf<S>) -> SqlShelf<S>
     ensures clean { ⟦<SqlShelf<S> as Shelf>⟧.clean result
         ↔ HasCleanDisk (state S.Store result.conn) }
     ensures content { IsTrue (state S.Store result.conn).is_open
+        → (⟦<SqlShelf<S> as Shelf>⟧.state result).content
+        ≡ with_waiting result.waiting.items (content_of (state S.Store result.conn).now.trees) }
+    ensures idle { IsTrue (state S.Store result.conn).is_open
+        → (⟦<SqlShelf<S> as Shelf>⟧.state result).begun ≡ None
         → (⟦<SqlShelf<S> as Shelf>⟧.state result).content
         ≡ content_of (state S.Store result.conn).now.trees }
     ensures left { (c : ShelfContent) → ⟦<SqlShelf<S> as Shelf>⟧.left result c

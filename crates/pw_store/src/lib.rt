@@ -11,6 +11,7 @@ mod entries;
 mod fault;
 mod filling;
 mod forms;
+mod frontier;
 mod given;
 mod held;
 mod judging;
@@ -32,6 +33,7 @@ mod sums;
 mod total_statements;
 mod transaction;
 mod upload;
+mod waiting;
 mod watch;
 
 pub use fault::OpenFault;

@@ -8,6 +8,7 @@ ghost use Rattle.pw_shelf.specs.Seconds.{ListsSeconds, ListsSecondsWithin, by_se
 ghost use Rattle.pw_schema.specs.inner.Calls.{Asks};
 ghost use Rattle.pw_store.specs.Content.{point_in, point_tree, start_in, start_tree, total_in};
 ghost use Rattle.pw_store.specs.Kept.{IsAwake, NowIsStore};
+ghost use Rattle.pw_store.specs.Waiting.{points_over};
 ghost use Rattle.pw_store.specs.inner.Seconds.{IsNearest, first_amount, first_point, point_told, start_told};
 
 use crate::fault::AskFault;
@@ -16,6 +17,7 @@ use crate::points::{Side, between_rows, nearest_rows};
 use crate::row_values::{all_points, all_starts, one_amount, one_point};
 use crate::starts::start_rows;
 use crate::total_statements::total_rows;
+use crate::waiting::{WaitingPoint, nearest_of};
 use pw_model::TotalKey;
 use pw_obis::{Register, WattHours};
 use pw_tariff::{MeterId, Owner};
@@ -56,10 +58,11 @@ fn read_amount(rows: &[Row]) -> Result<u64, AskFault>
     }
 }
 
-// The nearest point strictly on a side, if there is one.
+// The nearest point strictly on a side, if there is one: of those written, and of those that wait.
 pub(crate) fn nearest<S: Alter>(
     conn: &mut Connection<S>,
     doubtful: bool,
+    waiting: &[WaitingPoint],
     meter: MeterId,
     register: Register,
     side: Side,
@@ -68,12 +71,14 @@ pub(crate) fn nearest<S: Alter>(
     requires store { NowIsStore (state S.Store conn.old) }
     ensures row { HasCleanDisk (state S.Store conn.new)
         → IfOk result (λ found. IsNearest side
-        (point_in ((state S.Store conn.old).now.trees point_tree) meter.0 register) found) }
+        (points_over waiting.now (point_in ((state S.Store conn.old).now.trees point_tree)) meter.0
+        register) found) }
     ensures asks { Asks result (state S.Store conn.old) (state S.Store conn.new) }
 {
     wake(conn, doubtful)?;
-    let rows = nearest_rows(conn, meter, register, side)?;
-    read_point(rows.as_slice())
+    let rows = nearest_rows(conn, meter, register, &side)?;
+    let written = read_point(rows.as_slice())?;
+    Ok(nearest_of(waiting, meter, register, &side, written))
 }
 
 // The points from one instant to another, both included, in order.

@@ -2,10 +2,14 @@
 
 ghost use Rattle.std.specs.Prelude.{◌≡◌};
 ghost use Rattle.sqlite.specs.Held.{state};
-ghost use Rattle.pw_store.specs.Kept.{BaseIsOnce, NowIsStore, CommittedIsStore, IsSinceBase, IsIdle, IsInside, IsAwake, BaseIsCounted, NowIsCounted};
-ghost use Rattle.pw_store.specs.lemmas.OneProof.{BaseIsOnce-prop, NowIsStore-prop, CommittedIsStore-prop, IsSinceBase-prop, IsIdle-prop, IsInside-prop, IsAwake-prop, BaseIsCounted-prop, NowIsCounted-prop, KeepsOpened-prop};
+ghost use Rattle.pw_store.specs.Kept.{BaseIsOnce, NowIsStore, CommittedIsStore, IsSinceBase, IsIdle, IsInside, IsAwake, BaseIsCounted, NowIsKnown};
+ghost use Rattle.pw_store.specs.lemmas.OneProof.{BaseIsOnce-prop, NowIsStore-prop, CommittedIsStore-prop, IsSinceBase-prop, IsIdle-prop, IsInside-prop, IsAwake-prop, BaseIsCounted-prop, NowIsKnown-prop, KeepsOpened-prop, NoneWaits-prop};
 ghost use Rattle.pw_store.specs.Left.{KeepsOpened};
+ghost use Rattle.pw_store.specs.Waiting.{NoneWaits};
 
+use crate::frontier::Frontier;
+use crate::waiting::{AT_ONCE, WaitingPoint};
+use arrayvec::ArrayVec;
 use pw_shelf::Tally;
 use sqlite::{Alter, Connection};
 use std::snapshot::Snapshot;
@@ -27,6 +31,10 @@ pub struct SqlShelf<S: Alter> {
     pub(crate) failures: Tally,
     pub(crate) failed_abandons: Tally,
     pub(crate) tally: Tally,
+    // what is known of the register of the last reading that was looked for
+    pub(crate) frontier: Option<Frontier>,
+    // points of the upload that wait to be written, in the order in which they were put
+    pub(crate) waiting: ArrayVec<WaitingPoint, AT_ONCE>,
     ghost base_once: { BaseIsOnce (state S.Store conn) (state S.Store base.value) } by { BaseIsOnce-prop (state S.Store conn) (state S.Store base.value) },
     ghost now: { NowIsStore (state S.Store conn) } by { NowIsStore-prop (state S.Store conn) },
     ghost committed: { CommittedIsStore (state S.Store conn) } by { CommittedIsStore-prop (state S.Store conn) },
@@ -35,8 +43,9 @@ pub struct SqlShelf<S: Alter> {
     ghost inside: { IsInside (state S.Store conn) } by { IsInside-prop (state S.Store conn) },
     ghost awake: { IsAwake (state S.Store conn) doubtful } by { IsAwake-prop (state S.Store conn) doubtful },
     ghost base_counted: { BaseIsCounted (state S.Store conn) held (state S.Store base.value) } by { BaseIsCounted-prop (state S.Store conn) held (state S.Store base.value) },
-    ghost now_counted: { NowIsCounted (state S.Store conn) within } by { NowIsCounted-prop (state S.Store conn) within },
+    ghost now_known: { NowIsKnown (state S.Store conn) within frontier } by { NowIsKnown-prop (state S.Store conn) within frontier },
     ghost keeps: { KeepsOpened (state S.Store conn) (state S.Store opened.value) } by { KeepsOpened-prop (state S.Store conn) (state S.Store opened.value) },
+    ghost none_waits: { NoneWaits begun waiting.items } by { NoneWaits-prop begun waiting.items },
 }
 
 // It is written out, so that a caller doesn't prove again how each part is dropped.
@@ -62,6 +71,8 @@ impl<S: Alter> SqlShelf<S> {
             failures: _,
             failed_abandons: _,
             tally: _,
+            frontier: _,
+            waiting: _,
         } = self;
         conn
     }

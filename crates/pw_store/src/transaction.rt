@@ -1,11 +1,12 @@
 //! The calls that begin and end an upload.
 
-ghost use Rattle.std.specs.Prelude.{◌≡◌, ◌+◌, OnErr, OnOk, None, Some, IsSome};
+ghost use Rattle.std.specs.Prelude.{◌≡◌, ◌+◌, OnErr, OnOk, None, Some, IsSome, [], false, true};
 ghost use Rattle.sqlite.specs.Held.{state};
 ghost use Rattle.sqlite.specs.State.{HasCleanDisk};
 ghost use Rattle.pw_shelf.specs.Calls.{failures_told};
 ghost use Rattle.pw_shelf.specs.Left.{LeavesNoMore, LeavesNoMoreOr, LeavesOnly};
-ghost use Rattle.pw_store.specs.Kept.{begun_with, held_of, left_of};
+ghost use Rattle.pw_store.specs.Kept.{begun_with, left_of, written_of};
+ghost use Rattle.pw_store.specs.OpenStore.{held_in};
 
 use crate::fault::{device_fault, fault_of};
 use crate::shelf::SqlShelf;
@@ -19,12 +20,12 @@ impl<S: Alter> SqlShelf<S> {
     pub(crate) fn begin_upload(&mut self) -> Result<(), ShelfFault>
         requires { begun_with self.old.begun (state S.Store self.old.base.value) ≡ None }
         ensures begun { OnOk result (begun_with self.new.begun (state S.Store self.new.base.value)
-            ≡ Some (held_of (state S.Store self.old.conn) (state S.Store self.old.base.value))) }
+            ≡ Some (held_in S.Store self.old)) }
         ensures unbegun { OnErr result (begun_with self.new.begun
             (state S.Store self.new.base.value) ≡ None) }
         ensures same { HasCleanDisk (state S.Store self.new.conn)
-            → held_of (state S.Store self.new.conn) (state S.Store self.new.base.value)
-            ≡ held_of (state S.Store self.old.conn) (state S.Store self.old.base.value) }
+            → held_in S.Store self.new
+            ≡ held_in S.Store self.old }
         ensures failures { self.new.failures.count ≡ self.old.failures.count
             + failures_told result }
         ensures abandons { self.new.failed_abandons.count ≡ self.old.failed_abandons.count }
@@ -46,6 +47,7 @@ impl<S: Alter> SqlShelf<S> {
             }
             Err(error) => {
                 self.doubtful = true;
+                self.frontier = None;
                 Err(fault_of(error, &mut self.failures))
             }
         }
@@ -59,29 +61,59 @@ impl<S: Alter> SqlShelf<S> {
         ensures begun { OnErr result (begun_with self.new.begun (state S.Store self.new.base.value)
             ≡ begun_with self.old.begun (state S.Store self.old.base.value)) }
         ensures same { HasCleanDisk (state S.Store self.new.conn)
-            → OnOk result (held_of (state S.Store self.new.conn)
-            (state S.Store self.new.base.value)
-            ≡ held_of (state S.Store self.old.conn) (state S.Store self.old.base.value)) }
+            → OnOk result (held_in S.Store self.new ≡ held_in S.Store self.old) }
         ensures failures { self.new.failures.count ≡ self.old.failures.count
             + failures_told result }
         ensures abandons { self.new.failed_abandons.count ≡ self.old.failed_abandons.count }
         ensures tally { self.new.tally.count ≡ self.old.tally.count + 1 }
         ensures kept { HasCleanDisk (state S.Store self.new.conn)
-            → OnOk result (LeavesOnly
-            (held_of (state S.Store self.old.conn) (state S.Store self.old.base.value))
+            → OnOk result (LeavesOnly (held_in S.Store self.old)
             (left_of (state S.Store self.new.conn))) }
         ensures stays { HasCleanDisk (state S.Store self.new.conn)
-            → OnOk result (left_of (state S.Store self.new.conn)
-            (held_of (state S.Store self.old.conn) (state S.Store self.old.base.value))) }
+            → OnOk result (left_of (state S.Store self.new.conn) (held_in S.Store self.old)) }
         ensures left { HasCleanDisk (state S.Store self.new.conn)
-            → OnErr result (LeavesNoMoreOr
-            (held_of (state S.Store self.old.conn) (state S.Store self.old.base.value))
+            → OnErr result (LeavesNoMoreOr (held_in S.Store self.old)
             (left_of (state S.Store self.old.conn)) (left_of (state S.Store self.new.conn))) }
         ensures cleanness { HasCleanDisk (state S.Store self.new.conn)
             → HasCleanDisk (state S.Store self.old.conn) }
         ensures store { self.new.opened.value ≡ self.old.opened.value }
     {
         self.tally.tick(0);
+        self.write_waiting()?;
+        self.commit_written()
+    }
+
+    // Ends the upload, and keeps what is written.
+    fn commit_written(&mut self) -> Result<(), ShelfFault>
+        requires begun { self.old.begun ≡ true }
+        requires none { self.old.waiting.items ≡ [] }
+        ensures ended { OnOk result (self.new.begun ≡ false) }
+        ensures begun { OnErr result ((self.new.begun ≡ self.old.begun)
+            × (self.new.base.value ≡ self.old.base.value)) }
+        ensures waits { self.new.waiting ≡ self.old.waiting }
+        ensures same { HasCleanDisk (state S.Store self.new.conn)
+            → OnOk result (written_of (state S.Store self.new.conn)
+            (state S.Store self.new.base.value)
+            ≡ written_of (state S.Store self.old.conn) (state S.Store self.old.base.value)) }
+        ensures failures { self.new.failures.count ≡ self.old.failures.count
+            + failures_told result }
+        ensures abandons { self.new.failed_abandons.count ≡ self.old.failed_abandons.count }
+        ensures tally { self.new.tally.count ≡ self.old.tally.count }
+        ensures kept { HasCleanDisk (state S.Store self.new.conn)
+            → OnOk result (LeavesOnly
+            (written_of (state S.Store self.old.conn) (state S.Store self.old.base.value))
+            (left_of (state S.Store self.new.conn))) }
+        ensures stays { HasCleanDisk (state S.Store self.new.conn)
+            → OnOk result (left_of (state S.Store self.new.conn)
+            (written_of (state S.Store self.old.conn) (state S.Store self.old.base.value))) }
+        ensures left { HasCleanDisk (state S.Store self.new.conn)
+            → OnErr result (LeavesNoMoreOr
+            (written_of (state S.Store self.old.conn) (state S.Store self.old.base.value))
+            (left_of (state S.Store self.old.conn)) (left_of (state S.Store self.new.conn))) }
+        ensures cleanness { HasCleanDisk (state S.Store self.new.conn)
+            → HasCleanDisk (state S.Store self.old.conn) }
+        ensures store { self.new.opened.value ≡ self.old.opened.value }
+    {
         if self.conn.is_autocommit() {
             return Err(device_fault(&mut self.failures));
         }
@@ -95,6 +127,7 @@ impl<S: Alter> SqlShelf<S> {
             }
             Err(error) => {
                 self.doubtful = true;
+                self.frontier = None;
                 Err(fault_of(error, &mut self.failures))
             }
         }

@@ -1,23 +1,22 @@
 //! A change of points, starts or totals within an upload.
 
-ghost use Rattle.std.specs.Prelude.{◌≡◌, ℕ, IfOk, OnOk, Some, true};
+ghost use Rattle.std.specs.Prelude.{◌≡◌, ◌∷◌, [], ℕ, IfOk, OnOk, true};
 ghost use Rattle.sqlite.specs.Held.{state};
 ghost use Rattle.sqlite.specs.State.{HasCleanDisk};
 ghost use Rattle.sqlite.specs.Tree.{Trees};
 ghost use Rattle.pw_model.specs.Shelf.{ShelfContent};
-ghost use Rattle.pw_shelf.specs.Changes.{with_point, with_total};
-ghost use Rattle.pw_store.specs.Kept.{held_of};
+ghost use Rattle.pw_shelf.specs.Changes.{with_total};
+ghost use Rattle.pw_store.specs.Kept.{written_of};
+ghost use Rattle.pw_store.specs.Waiting.{with_waiting};
 ghost use Rattle.pw_store.specs.inner.Changing.{Fits, IsFree, IsTaken, changed};
 ghost use Rattle.pw_store.specs.inner.AllElse.{KeepsElse};
 
 use crate::changes::{Change, make};
 use crate::fault::{device_fault, fault_of};
 use crate::shelf::SqlShelf;
+use crate::waiting::WaitingPoint;
 use pw_model::TotalKey;
-use pw_obis::{Register, WattHours};
 use pw_shelf::ShelfFault;
-use pw_tariff::MeterId;
-use pw_time::Instant;
 use sqlite::Alter;
 
 impl<S: Alter> SqlShelf<S> {
@@ -29,12 +28,13 @@ impl<S: Alter> SqlShelf<S> {
             → IsFree change (state S.Store self.old.conn).now.trees }
         requires fits { Fits change }
         ensures content { HasCleanDisk (state S.Store self.new.conn)
-            → IfOk result (λ rows. held_of (state S.Store self.new.conn)
+            → IfOk result (λ rows. written_of (state S.Store self.new.conn)
             (state S.Store self.new.base.value)
-            ≡ changed change rows (held_of (state S.Store self.old.conn)
+            ≡ changed change rows (written_of (state S.Store self.old.conn)
             (state S.Store self.old.base.value))) }
         ensures taken { HasCleanDisk (state S.Store self.new.conn)
             → IfOk result (λ rows. IsTaken change rows (state S.Store self.new.conn).now.trees) }
+        ensures waits { self.new.waiting ≡ self.old.waiting }
         ensures keeps_else { KeepsElse S.Store result self.old self.new }
     {
         if self.conn.is_autocommit() {
@@ -47,6 +47,7 @@ impl<S: Alter> SqlShelf<S> {
             }
             Err(error) => {
                 self.doubtful = true;
+                self.frontier = None;
                 Err(fault_of(error, &mut self.failures))
             }
         }
@@ -61,10 +62,11 @@ impl<S: Alter> SqlShelf<S> {
         requires steady { (rows : ℕ) (c : ShelfContent)
             → (changed take rows c ≡ changed take 1 c) × (changed put rows c ≡ changed put 1 c) }
         ensures content { HasCleanDisk (state S.Store self.new.conn)
-            → OnOk result (held_of (state S.Store self.new.conn)
+            → OnOk result (written_of (state S.Store self.new.conn)
             (state S.Store self.new.base.value)
             ≡ changed put 1 (changed take 1
-            (held_of (state S.Store self.old.conn) (state S.Store self.old.base.value)))) }
+            (written_of (state S.Store self.old.conn) (state S.Store self.old.base.value)))) }
+        ensures waits { self.new.waiting ≡ self.old.waiting }
         ensures keeps_else { KeepsElse S.Store result self.old self.new }
     {
         self.change(take)?;
@@ -72,35 +74,25 @@ impl<S: Alter> SqlShelf<S> {
         Ok(())
     }
 
-    // Puts a point. Where a row has its key, that is taken first, and the point is put then.
-    pub(crate) fn put_point(
-        &mut self,
-        meter: MeterId,
-        register: Register,
-        instant: Instant,
-        wh: WattHours,
-    ) -> Result<(), ShelfFault>
+    // Writes a point. Where a row has its key, that is taken first, and the point is put then.
+    pub(crate) fn write_point(&mut self, point: WaitingPoint) -> Result<(), ShelfFault>
         requires { self.old.begun ≡ true }
         ensures content { HasCleanDisk (state S.Store self.new.conn)
-            → OnOk result (held_of (state S.Store self.new.conn)
+            → OnOk result (written_of (state S.Store self.new.conn)
             (state S.Store self.new.base.value)
-            ≡ with_point (held_of (state S.Store self.old.conn)
-            (state S.Store self.old.base.value)) meter.0 register instant (Some wh)) }
+            ≡ with_waiting (point ∷ []) (written_of (state S.Store self.old.conn)
+            (state S.Store self.old.base.value))) }
+        ensures waits { self.new.waiting ≡ self.old.waiting }
         ensures keeps_else { KeepsElse S.Store result self.old self.new }
     {
-        let put = Change::PutPoint {
-            meter,
-            register,
-            instant,
-            wh,
-        };
+        let put = Change::PutPoint { point };
         if self.change(put)? > 0 {
             return Ok(());
         }
         self.change(Change::TakePoint {
-            meter,
-            register,
-            instant,
+            meter: point.meter,
+            register: point.register,
+            instant: point.instant,
         })?;
         if self.change(put)? > 0 {
             Ok(())
@@ -114,10 +106,11 @@ impl<S: Alter> SqlShelf<S> {
         requires begun { self.old.begun ≡ true }
         requires fits { Fits (Change.PutTotal key amount) }
         ensures content { HasCleanDisk (state S.Store self.new.conn)
-            → OnOk result (held_of (state S.Store self.new.conn)
+            → OnOk result (written_of (state S.Store self.new.conn)
             (state S.Store self.new.base.value)
-            ≡ with_total (held_of (state S.Store self.old.conn)
+            ≡ with_total (written_of (state S.Store self.old.conn)
             (state S.Store self.old.base.value)) key amount) }
+        ensures waits { self.new.waiting ≡ self.old.waiting }
         ensures keeps_else { KeepsElse S.Store result self.old self.new }
     {
         if self.change(Change::SetTotal { key, amount })? > 0 {

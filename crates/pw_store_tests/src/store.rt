@@ -1,7 +1,7 @@
 //! Stores over memory: what is kept, by calls that no upload makes; another office and other versions are refused.
 //! (What else is refused when one is opened stands in `tests/stores`.)
 
-ghost use Rattle.std.specs.Prelude.{◌≡◌, IfOk, None, false};
+ghost use Rattle.std.specs.Prelude.{◌≡◌, IfOk, IsSome, None, false};
 ghost use Rattle.pw_tariff.specs.Office.{OfficeFile};
 ghost use Rattle.pw_tariff.specs.Text.{IsOfficeOf};
 
@@ -88,6 +88,70 @@ fn a_point_put_again_is_the_last(rt: HostRuntime) {
     let mut shelf = empty_shelf(&rt, rt.alloc());
     let last = (at(&rt, 1_704_067_200), wh(&rt, 6));
     assert!(rt; point_put_twice(&rt, &mut shelf) == Ok(Some(last)));
+}
+
+// Puts the point of a second.
+fn put<S: Shelf>(
+    rt: &impl Abort,
+    shelf: &mut S,
+    second: u32,
+    watt_hours: u64,
+) -> Result<(), ShelfFault>
+    requires { IsSome (S.state shelf.old).begun }
+    ensures { (S.state shelf.new).begun ≡ (S.state shelf.old).begun }
+{
+    let instant = at(rt, second);
+    shelf.point_put(METER, Register::E1, instant, wh(rt, watt_hours))
+}
+
+// Whether points are told as they were put, while they wait and once they are written: six, of which two are at one
+// second, where four are written at once.
+fn six_points_told<S: Shelf>(
+    rt: &impl Abort,
+    alloc: Global,
+    shelf: &mut S,
+) -> Result<bool, ShelfFault>
+    requires { (S.state shelf.old).begun ≡ None }
+{
+    let point = |second: u32, watt_hours: u64| (at(rt, second), wh(rt, watt_hours));
+    shelf.begin()?;
+    put(rt, shelf, 1_704_067_200, 1)?;
+    put(rt, shelf, 1_704_067_201, 2)?;
+    put(rt, shelf, 1_704_067_202, 3)?;
+    put(rt, shelf, 1_704_067_201, 9)?;
+    let last = shelf.point_before(METER, Register::E1, at(rt, 1_704_067_203))?;
+    let again = shelf.point_before(METER, Register::E1, at(rt, 1_704_067_202))?;
+    put(rt, shelf, 1_704_067_203, 4)?;
+    put(rt, shelf, 1_704_067_204, 5)?;
+    let next = shelf.point_after(METER, Register::E1, at(rt, 1_704_067_203))?;
+    let from = at(rt, 1_704_067_201);
+    let all = shelf.points_between(alloc, METER, Register::E1, from, at(rt, 1_704_067_203))?;
+    shelf.commit()?;
+    let kept = shelf.point_before(METER, Register::E1, at(rt, 1_704_070_800))?;
+    let told = [
+        point(1_704_067_201, 9),
+        point(1_704_067_202, 3),
+        point(1_704_067_203, 4),
+    ];
+    Ok(
+        last == Some(told[1])
+            && again == Some(told[0])
+            && next == Some(point(1_704_067_204, 5))
+            && all.as_slice() == told.as_slice()
+            && kept == next,
+    )
+}
+
+// bears on: pw_shelf shelf.rt Shelf::commit same
+// bears on: pw_shelf shelf.rt Shelf::point_after row
+// bears on: pw_shelf shelf.rt Shelf::point_before row
+// bears on: pw_shelf shelf.rt Shelf::point_put put
+// bears on: pw_shelf shelf.rt Shelf::points_between rows
+// bears on: pw_store laws.rt store_is_its_tables idle
+#[test]
+fn points_that_wait_are_told(rt: HostRuntime) {
+    let mut shelf = empty_shelf(&rt, rt.alloc());
+    assert!(rt; six_points_told(&rt, rt.alloc(), &mut shelf) == Ok(true));
 }
 
 // Whether a store keeps such a total.

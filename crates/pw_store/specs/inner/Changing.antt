@@ -26,10 +26,11 @@ use Rattle.pw_shelf.specs.Changes.{with_point, with_start, with_total}
 use Rattle.pw_shelf.specs.State.{IsWithRecord}
 use Rattle.pw_schema.specs.Tables.{IsOurs, only_one, ours_with, period_total_at}
 use Rattle.pw_store.specs.declared.changes.Change.{Change}
-use Rattle.pw_store.specs.declared.changes.Change.TheVariants.{TakePoint, PutPoint, TakeStart, PutStart, TakeTotal, SetTotal, PutTotal}
+use Rattle.pw_store.specs.declared.changes.Change.TheVariants.{TakePoint, PutPoint, PutFour, TakeStart, PutStart, TakeTotal, SetTotal, PutTotal}
 use Rattle.pw_store.specs.Content.{content_of, start_in, energy_told, payment_told, start_tree, energy_tree, payment_tree}
 use Rattle.pw_store.specs.Kept.{IsStore}
 use Rattle.pw_store.specs.Left.{Keeps}
+use Rattle.pw_store.specs.Waiting.{with_waiting}
 
 -- whatever the old trees keep, the new ones do
 abbrev pub StillKeeps : Trees → Trees → Type 0
@@ -58,7 +59,8 @@ where_any (suc n) old new = new
 -- what a change makes of a content, where its statement has changed so many rows
 abbrev pub changed : Change → ℕ → ShelfContent → ShelfContent
 changed (TakePoint m r t) n c = with_point c m.0 r t None
-changed (PutPoint m r t w) n c = where_any n c (with_point c m.0 r t (Some w))
+changed (PutPoint p) n c = where_any n c (with_waiting (p ∷ []) c)
+changed (PutFour p q r s) n c = where_any n c (with_waiting (p ∷ q ∷ r ∷ s ∷ []) c)
 changed (TakeStart m t) n c = with_start c m.0 t None
 changed (PutStart m t o) n c = with_start c m.0 t (Some o)
 changed (TakeTotal k) n c = with_total c k 0

@@ -1,11 +1,14 @@
 -- What rows tell by the second, as a query shows them: a second, and what is told at it. It serves `src/points.rt`,
--- `src/starts.rt` and `src/row_values.rt`.
+-- `src/starts.rt`, `src/row_values.rt` and `src/waiting.rt`.
 -- (Definitions of this project.)
-use Rattle.std.specs.Prelude.{ℕ, Option, Some, None, List, [], ◌∷◌, codes}
+use Rattle.std.specs.Prelude.{◌≡◌, ◌<◌, ◌≤◌, ◌⊎◌, ℕ, Option, Some, None, List, [], ◌∷◌, codes}
 use Rattle.sqlite.specs.Order.{Row, column}
+use Rattle.pw_obis.specs.declared.reference.Register.{Register}
 use Rattle.pw_tariff.specs.declared.ids.AccountId.{AccountId}
 use Rattle.pw_shelf.specs.Seconds.{IsBefore, IsBehind}
 use Rattle.pw_schema.specs.Rows.{number, owner_at}
+use Rattle.pw_store.specs.Waiting.{Points, points_over}
+use Rattle.pw_store.specs.declared.waiting.WaitingPoint.{WaitingPoint}
 use Rattle.pw_store.specs.declared.points.Side.{Side}
 use Rattle.pw_store.specs.declared.points.Side.TheVariants.{Before, Behind}
 
@@ -41,3 +44,21 @@ nearest_text (Behind t) = codes "SELECT instant, wh FROM point WHERE meter = ?1 
 abbrev pub IsNearest : Side → (ℕ → Option ℕ) → Option (ℕ × ℕ) → Type 0
 IsNearest (Before t) told found = IsBefore told t found
 IsNearest (Behind t) told found = IsBehind told t found
+
+-- a second is strictly on it, and no farther than what was found
+abbrev pub IsNearer : Side → ℕ → Option (ℕ × ℕ) → Type 0
+IsNearer (Before t) x None = x < t
+IsNearer (Before t) x (Some a) = (x < t) × (a.0 ≤ x)
+IsNearer (Behind t) x None = t < x
+IsNearer (Behind t) x (Some a) = (t < x) × (x ≤ a.0)
+
+-- it isn't on it, or is farther
+abbrev pub IsFarther : Side → ℕ → Option (ℕ × ℕ) → Type 0
+IsFarther (Before t) x None = t ≤ x
+IsFarther (Before t) x (Some a) = (t ≤ x) ⊎ (x < a.0)
+IsFarther (Behind t) x None = x ≤ t
+IsFarther (Behind t) x (Some a) = (x ≤ t) ⊎ (a.0 < x)
+
+-- of points that wait, none is of a register from one second to another, both included: nothing is told otherwise there
+abbrev pub NoneWithin : List WaitingPoint → ℕ → Register → ℕ → ℕ → Type 0
+NoneWithin waiting m r from to = (points : Points) (t : ℕ) → from ≤ t → t ≤ to → points_over waiting points m r t ≡ points m r t

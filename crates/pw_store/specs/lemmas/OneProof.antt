@@ -1,5 +1,5 @@
 -- What is kept of a store has one proof at most.
-use Rattle.std.specs.Prelude.{◌≡◌, ℕ, List, [], length, map, Bool, true}
+use Rattle.std.specs.Prelude.{◌≡◌, ℕ, Option, Some, None, List, [], length, map, Bool, true}
 use mathlib.Core.HLevel.{Unit-prop, ⊥_prop}
 use Rattle.std.specs.Coded.{×_prop, Π_prop, Coded-set}
 use mathlib.Core.Bool.{Bool-set}
@@ -21,8 +21,15 @@ use Rattle.pw_schema.specs.declared.kind.StoreVersion.{StoreVersion}
 use Rattle.pw_schema.specs.declared.kind.StoreVersion.TheVariants.{First, Second, Third}
 use Rattle.pw_store.specs.Keyed.{AreKeyed, HasRowid, IsEnergyRow, IsPaymentRow}
 use Rattle.pw_store.specs.Opening.{AreRows, HasEnergies, HasEnergiesOf, HasRows}
+use Rattle.pw_obis.specs.declared.reference.Register.{Register}
+use Rattle.pw_tariff.specs.declared.ids.MeterId.{MeterId}
+use Rattle.pw_model.specs.declared.records.Entry.{Entry}
+use Rattle.pw_store.specs.Frontier.{IsFrontier, NoneFrom}
+use Rattle.pw_store.specs.declared.frontier.Frontier.{Frontier}
+use Rattle.pw_store.specs.Waiting.{NoneWaits}
+use Rattle.pw_store.specs.declared.waiting.WaitingPoint.{WaitingPoint}
 use Rattle.pw_store.specs.Left.{IsOldEnergy, IsOldPayment, Keeps, IsLeftOf, KeepsOpened}
-use Rattle.pw_store.specs.Kept.{key_in_point, key_in_start, IsStore, BaseIsOnce, NowIsStore, CommittedIsStore, IsSinceBase, IsIdle, IsInside, IsAwake, BaseIsCounted, NowIsCounted}
+use Rattle.pw_store.specs.Kept.{key_in_point, key_in_start, IsStore, BaseIsOnce, NowIsStore, CommittedIsStore, IsSinceBase, IsIdle, IsInside, IsAwake, BaseIsCounted, NowIsKnown}
 
 -- ---- a fact has one proof at most
 same_value : {a b : Value} → IsProp (a ≡ b)
@@ -95,8 +102,19 @@ IsAwake-prop s doubtful = Π_prop λ _. Π_prop λ _. Bool-set s.is_open true
 pub BaseIsCounted-prop : (s : Sql) (held : ℕ) (base : Sql) → IsProp (BaseIsCounted s held base)
 BaseIsCounted-prop s held base = Π_prop λ _. ℕ_set (length (records_of base.committed.trees)) held
 
-pub NowIsCounted-prop : (s : Sql) (within : ℕ) → IsProp (NowIsCounted s within)
-NowIsCounted-prop s within = Π_prop λ _. Π_prop λ _. ℕ_set (length (records_of s.now.trees)) within
+NoneFrom-prop : (m : MeterId) (r : Register) (from : Option ℕ) (records : List Entry) → IsProp (NoneFrom m r from records)
+NoneFrom-prop m r None records = Unit-prop
+NoneFrom-prop m r (Some from) records = Π_prop λ _. Π_prop λ _. Π_prop λ _. Π_prop λ _. Π_prop λ _. ⊥_prop
+
+IsFrontier-prop : (frontier : Option Frontier) (records : List Entry) → IsProp (IsFrontier frontier records)
+IsFrontier-prop None records = Unit-prop
+IsFrontier-prop (Some f) records = NoneFrom-prop f.meter f.register f.from records
+
+pub NowIsKnown-prop : (s : Sql) (within : ℕ) (frontier : Option Frontier) → IsProp (NowIsKnown s within frontier)
+NowIsKnown-prop s within frontier = Π_prop λ _. ×_prop (Π_prop λ _. ℕ_set (length (records_of s.now.trees)) within) (Π_prop λ _. IsFrontier-prop frontier (records_of s.now.trees))
+
+pub NoneWaits-prop : (begun : Bool) (waiting : List WaitingPoint) → IsProp (NoneWaits begun waiting)
+NoneWaits-prop begun waiting = Π_prop λ _. ℕ_set (length waiting) 0
 
 -- ---- what is kept of the store that was opened
 AreRows-prop : {K : Type 0} (IsRow : Row → Type 0) → ((r : Row) → IsProp (IsRow r)) → (key_in : Row → K) (rows : List Row) → IsProp (AreRows IsRow key_in rows)

@@ -9,12 +9,11 @@ ghost use Rattle.std.specs.Prelude.{◌≡◌, IsSome, None, OnOk};
 
 use super::{begun_total, empty_shelf, see_office, shelf_of};
 use crate::sql_stores::memory;
-use pw_obis::{Register, WattHours};
 use pw_shelf::{Shelf, ShelfFault};
 use pw_store::{OpenFault, SqlShelf};
 use pw_tests::offices::SAMPLE;
 use pw_tests::sample::METER;
-use pw_time::{FIRST_SECOND, Instant, LAST_SECOND};
+use pw_time::{FIRST_SECOND, Instant};
 use sqlite::{Connection, MemStore};
 use std::alloc::Global;
 use std::io::Write;
@@ -54,17 +53,16 @@ fn is_opened<O: Write>(rt: &impl Abort, alloc: Global, out: &mut O) -> bool {
     }
 }
 
-// Puts a point. What can't be made is told as a device's failure, which the trial refuses.
+// Puts a start. What can't be made is told as a device's failure, which the trial refuses.
 fn put<S: Shelf>(store: &mut S, second: u32) -> Result<(), ShelfFault>
     requires { IsSome (S.state store.old).begun }
     ensures { (S.state store.new).begun ≡ (S.state store.old).begun }
 {
     let instant = Instant::of(second).ok_or(ShelfFault::Device)?;
-    let watt_hours = WattHours::of(1).ok_or(ShelfFault::Device)?;
-    store.point_put(METER, Register::I1, instant, watt_hours)
+    store.start_put(METER, instant, None)
 }
 
-// Puts two points in an upload that is given up; whether the second is refused as the first is, one of whose requests
+// Puts two starts in an upload that is given up; whether the second is refused as the first is, one of whose requests
 // may have been refused.
 fn is_given_up<S: Shelf, O: Write>(out: &mut O, store: &mut S) -> Result<bool, ShelfFault>
     requires { (S.state store.old).begun ≡ None }
@@ -80,13 +78,16 @@ fn is_given_up<S: Shelf, O: Write>(out: &mut O, store: &mut S) -> Result<bool, S
 }
 
 // Whether nothing is kept of an upload that was given up, which the engine has undone where it was refused memory.
-fn is_left_alone<S: Shelf, O: Write>(out: &mut O, store: &mut S) -> Result<bool, ShelfFault>
+fn is_left_alone<S: Shelf, O: Write>(
+    alloc: Global,
+    out: &mut O,
+    store: &mut S,
+) -> Result<bool, ShelfFault>
     requires { (S.state store.old).begun ≡ None }
 {
     let is_given_up = is_given_up(out, store)?;
-    let last = Instant::of(LAST_SECOND).ok_or(ShelfFault::Device)?;
-    let point = store.point_before(METER, Register::I1, last)?;
-    Ok(is_given_up && point.is_none())
+    let starts = store.starts_of(alloc, METER)?;
+    Ok(is_given_up && starts.is_empty())
 }
 
 fn closed_without_memory<O: Write>(rt: &impl Abort, alloc: Global, out: &mut O) {
@@ -102,7 +103,7 @@ fn with_one_refused<O: Write>(rt: &impl Abort, alloc: Global, out: &mut O) {
     assert!(rt; is_opened(rt, alloc, out));
     tell(out, b"store opened\n");
     let mut store = empty_shelf(rt, alloc);
-    assert!(rt; is_left_alone(out, &mut store) == Ok(true));
+    assert!(rt; is_left_alone(alloc, out, &mut store) == Ok(true));
     tell(out, b"upload undone\n");
 }
 

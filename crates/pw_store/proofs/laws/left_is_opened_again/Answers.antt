@@ -1,6 +1,6 @@
 use Rattle.sqlite.specs.Held.{state}
 use Rattle.sqlite.specs.State.{HasCleanDisk}
-use Rattle.pw_store.specs.Kept.{held_of}
+use Rattle.pw_store.specs.OpenStore.{held_in}
 use Rattle.pw_store.proofs.LeftOpening.{content_again, refused_again}
 use Rattle.pw_store.proofs.laws.left_is_opened_again.Goals as goal
 
@@ -12,4 +12,4 @@ returns-clause-refused g c it =
 pub returns-clause-content : goal.returns-clause-content
 returns-clause-content g c it =
     let shelf = c.args.shelf.now in
-    content_again (state g.S.Store shelf.conn) (state g.S.Store shelf.opened.value) (state g.T.Store c.args.found) shelf.keeps c.args.office_text.now it (λ s. HasCleanDisk (state g.T.Store s.conn)) (λ s. held_of (state g.T.Store s.conn) (state g.T.Store s.base.value)) c.open.result c.open.ensures.content
+    content_again (state g.S.Store shelf.conn) (state g.S.Store shelf.opened.value) (state g.T.Store c.args.found) shelf.keeps c.args.office_text.now it (λ s. HasCleanDisk (state g.T.Store s.conn)) (λ s. held_in g.T.Store s) c.open.result c.open.ensures.content

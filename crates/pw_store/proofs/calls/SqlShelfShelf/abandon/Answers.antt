@@ -13,7 +13,7 @@ invariant_of-self-in-Err-clause-keeps g c =
     let self = c.args.self.now in
     keeps_failed (state g.S.Store self.conn) (state g.S.Store c.roll_back.new.conn) (state g.S.Store self.opened.value) self.keeps c.in-Err.ensures.writes.crash c.in-Err.ensures.writes.failed
 
-pub invariant_of-self-in-Err-clause-now_counted : goal.invariant_of-self-in-Err-clause-now_counted
-invariant_of-self-in-Err-clause-now_counted g c =
+pub invariant_of-self-in-Err-clause-now_known : goal.invariant_of-self-in-Err-clause-now_known
+invariant_of-self-in-Err-clause-now_known g c =
     let self = c.args.self.now in
-    counted_failed (state g.S.Store self.conn) (state g.S.Store c.roll_back.new.conn) self.within self.now_counted c.in-Err.ensures.writes.crash c.in-Err.ensures.writes.failed
+    counted_failed (state g.S.Store self.conn) (state g.S.Store c.roll_back.new.conn) self.within self.frontier self.now_known c.in-Err.ensures.writes.crash c.in-Err.ensures.writes.failed

@@ -13,7 +13,7 @@ returns-in-Err-clause-asked g c =
     let new = state g.S.Store c.contents-asked.new.conn in
     record {
       same = λ clean. tt;
-      failed = λ clean none. failed_same old new (state g.S.Store self.base.value) self.begun 0 0 0 (g.met.S.Store.shut_if_dirty self.conn.store) self.since self.idle (c.in-Err.ensures.asks.failed clean) none;
+      failed = λ clean none. failed_same self.waiting.items old new (state g.S.Store self.base.value) self.begun (g.met.S.Store.shut_if_dirty self.conn.store) self.since self.idle (c.in-Err.ensures.asks.failed clean) none;
       tally = c.tick-in-Err.ensures;
       kept = record {
         upload = refl;
@@ -34,12 +34,12 @@ invariant_of-self-in-Err-clause-keeps g c =
     let self = c.args.self.now in
     keeps_failed (state g.S.Store self.conn) (state g.S.Store c.contents-asked.new.conn) (state g.S.Store self.opened.value) self.keeps c.in-Err.ensures.asks.crash c.in-Err.ensures.asks.failed
 
-pub invariant_of-self-in-Err-clause-now_counted : goal.invariant_of-self-in-Err-clause-now_counted
-invariant_of-self-in-Err-clause-now_counted g c =
+pub invariant_of-self-in-Err-clause-now_known : goal.invariant_of-self-in-Err-clause-now_known
+invariant_of-self-in-Err-clause-now_known g c =
     let self = c.args.self.now in
-    counted_failed (state g.S.Store self.conn) (state g.S.Store c.contents-asked.new.conn) self.within self.now_counted c.in-Err.ensures.asks.crash c.in-Err.ensures.asks.failed
+    counted_failed (state g.S.Store self.conn) (state g.S.Store c.contents-asked.new.conn) self.within self.frontier self.now_known c.in-Err.ensures.asks.crash c.in-Err.ensures.asks.failed
 
-pub invariant_of-self-clause-now_counted : goal.invariant_of-self-clause-now_counted
-invariant_of-self-clause-now_counted g c =
+pub invariant_of-self-clause-now_known : goal.invariant_of-self-clause-now_known
+invariant_of-self-clause-now_known g c =
     let self = c.args.self.now in
-    counted_same (state g.S.Store self.conn) (state g.S.Store c.contents-asked.new.conn) self.within self.now_counted c.in-Ok.ensures.asks.crash c.in-Ok.ensures.asks.same
+    counted_same (state g.S.Store self.conn) (state g.S.Store c.contents-asked.new.conn) self.within self.frontier self.now_known c.in-Ok.ensures.asks.crash c.in-Ok.ensures.asks.same

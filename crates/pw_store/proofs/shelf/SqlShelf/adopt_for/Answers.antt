@@ -1,5 +1,9 @@
-use Rattle.std.proofs.Common.{ap}
+use Rattle.std.proofs.Common.{ap, subst, sym, ◌∙◌}
 use Rattle.sqlite.specs.Held.{state}
+use Rattle.pw_shelf.specs.Left.{LeavesOnly}
+use Rattle.pw_store.specs.Kept.{left_of, written_of}
+use Rattle.pw_store.specs.Waiting.{with_waiting}
+use Rattle.pw_store.proofs.Waited.{with_none}
 use Rattle.pw_store.proofs.Adopted.{adopted_at, adopted_held, was_open_at}
 use Rattle.pw_store.proofs.Fresh.{left_alone}
 use Rattle.pw_store.proofs.shelf.SqlShelf.adopt_for.Goals as goal
@@ -8,7 +12,11 @@ pub returns-in-Ok-clause-same : goal.returns-in-Ok-clause-same
 returns-in-Ok-clause-same g c clean =
     let it = adopted_at _ _ _ _ (ap (state g.S.Store) c.into_connection-connection.ensures) (ap (state g.S.Store) c.over.ensures.conn) _ _ c.in-Ok.ensures.adopted clean in
     let was = was_open_at _ _ _ _ (ap (state g.S.Store) c.into_connection-connection.ensures) (ap (state g.S.Store) c.over.ensures.conn) c.in-Ok.ensures.was_open clean in
-    adopted_held (state g.S.Store c.args.self.conn) (state g.S.Store c.args.self.base.value) _ _ (state g.S.Store c.over.result.conn) (state g.S.Store c.over.result.base.value) c.args.self.begun c.args.self.idle c.requires was.0 was.1 it
+    let self = c.args.self in
+    let new = c.over.result in
+    ap (λ waiting. with_waiting waiting (written_of (state g.S.Store new.conn) (state g.S.Store new.base.value))) c.over.ensures.none
+    ∙ adopted_held (state g.S.Store self.conn) (state g.S.Store self.base.value) _ _ (state g.S.Store new.conn) (state g.S.Store new.base.value) self.begun self.idle c.requires was.0 was.1 it
+    ∙ sym (with_none self.waiting.items (written_of (state g.S.Store self.conn) (state g.S.Store self.base.value)) (self.none_waits c.requires))
 
 pub returns-in-Ok-clause-rows : goal.returns-in-Ok-clause-rows
 returns-in-Ok-clause-rows g c clean = (adopted_at _ _ _ _ (ap (state g.S.Store) c.into_connection-connection.ensures) (ap (state g.S.Store) c.over.ensures.conn) _ _ c.in-Ok.ensures.adopted clean).adopted.same
@@ -16,4 +24,6 @@ returns-in-Ok-clause-rows g c clean = (adopted_at _ _ _ _ (ap (state g.S.Store) 
 pub returns-in-Ok-clause-left : goal.returns-in-Ok-clause-left
 returns-in-Ok-clause-left g c clean =
     let it = adopted_at _ _ _ _ (ap (state g.S.Store) c.into_connection-connection.ensures) (ap (state g.S.Store) c.over.ensures.conn) _ _ c.in-Ok.ensures.adopted clean in
-    left_alone _ (state g.S.Store c.over.result.base.value) it.standing (λ db live may. g.met.S.Store.settled c.over.result.conn.store db live may)
+    let s = state g.S.Store c.over.result.conn in
+    subst (λ waiting. LeavesOnly (with_waiting waiting (written_of s (state g.S.Store c.over.result.base.value))) (left_of s)) (sym c.over.ensures.none)
+    (left_alone s (state g.S.Store c.over.result.base.value) it.standing (λ db live may. g.met.S.Store.settled c.over.result.conn.store db live may))

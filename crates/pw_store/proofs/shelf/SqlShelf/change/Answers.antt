@@ -28,12 +28,12 @@ invariant_of-self-in-Err-clause-awake g c = search rules depth 0 fits 100
 pub make-requires-clause-inside : goal.make-requires-clause-inside
 make-requires-clause-inside g c = search rules depth 0 fits 100
 
-pub invariant_of-self-in-Ok-clause-now_counted : goal.invariant_of-self-in-Ok-clause-now_counted
-invariant_of-self-in-Ok-clause-now_counted g c =
+pub invariant_of-self-in-Ok-clause-now_known : goal.invariant_of-self-in-Ok-clause-now_known
+invariant_of-self-in-Ok-clause-now_known g c =
     let self = c.args.self.now in
-    counted_changed (state g.S.Store self.conn) (state g.S.Store c.make.new.conn) self.within c.args.change c.in-Ok.rows self.now_counted (mode_is _ _ c.if-is_autocommit.false c.is_autocommit.ensures.value) c.in-Ok.ensures.writes.crash c.in-Ok.ensures.done
+    counted_changed (state g.S.Store self.conn) (state g.S.Store c.make.new.conn) self.within c.args.change c.in-Ok.rows self.frontier self.now_known (mode_is _ _ c.if-is_autocommit.false c.is_autocommit.ensures.value) c.in-Ok.ensures.writes.crash c.in-Ok.ensures.done
 
-pub invariant_of-self-in-Err-clause-now_counted : goal.invariant_of-self-in-Err-clause-now_counted
-invariant_of-self-in-Err-clause-now_counted g c =
+pub invariant_of-self-in-Err-clause-now_known : goal.invariant_of-self-in-Err-clause-now_known
+invariant_of-self-in-Err-clause-now_known g c =
     let self = c.args.self.now in
-    counted_failed (state g.S.Store self.conn) (state g.S.Store c.make.new.conn) self.within self.now_counted c.in-Err.ensures.writes.crash c.in-Err.ensures.writes.failed
+    counted_failed (state g.S.Store self.conn) (state g.S.Store c.make.new.conn) self.within self.frontier self.now_known c.in-Err.ensures.writes.crash c.in-Err.ensures.writes.failed

@@ -1,49 +1,60 @@
-use Rattle.std.proofs.Common.{ap, rules}
+use Rattle.std.proofs.Common.{inl, subst, ◌∙◌}
 use Rattle.sqlite.specs.Held.{state}
-use Rattle.pw_schema.proofs.Outcomes.{early}
-use Rattle.pw_store.proofs.Counted.{counted_committed, counted_failed, counted_snapshot}
-use Rattle.pw_store.proofs.Inside.{mode_is}
-use Rattle.pw_store.proofs.Keeping.{left_or_held, left_stays}
-use Rattle.pw_store.proofs.LeftStores.{keeps_committed, keeps_uncommitted}
+use Rattle.pw_model.specs.Shelf.{ShelfContent}
+use Rattle.pw_shelf.specs.Left.{LeavesOnly}
+use Rattle.pw_store.specs.Content.{content_of}
+use Rattle.pw_store.specs.Kept.{begun_with, left_of, written_of}
+use Rattle.pw_store.specs.OpenStore.{held_in}
+use Rattle.pw_store.proofs.Ending.{held_written, leaves_held, none_begun, on_err, on_ok, with_err, written_held}
 use Rattle.pw_store.proofs.shelf.SqlShelf.commit_upload.Goals as goal
 
-pub returns-in-Err-clause-left : goal.returns-in-Err-clause-left
-returns-in-Err-clause-left g c clean =
-    let self = c.args.self.now in
-    let before = early (state g.S.Store self.conn) (state g.S.Store c.commit.new.conn) c.in-Err.ensures.crash clean in
-    left_or_held (state g.S.Store self.conn) (state g.S.Store c.commit.new.conn) (state g.S.Store self.base.value) (self.inside before (mode_is _ _ c.if-is_autocommit.false c.is_autocommit.ensures.value)) c.in-Err.ensures.crash clean
+pub returns-clause-ended : goal.returns-clause-ended
+returns-clause-ended g c =
+    let new = c.commit_written.new.self in
+    on_ok c.commit_written.result (none_begun new.begun (content_of (state g.S.Store new.base.value).committed.trees)) c.commit_written.ensures.ended
 
-pub invariant_of-self-in-Ok-clause-keeps : goal.invariant_of-self-in-Ok-clause-keeps
-invariant_of-self-in-Ok-clause-keeps g c =
-    let self = c.args.self.now in
-    keeps_committed (state g.S.Store self.conn) (state g.S.Store c.commit.new.conn) (state g.S.Store self.opened.value) self.keeps c.in-Ok.ensures.crash self.now c.in-Ok.ensures.done
+pub returns-clause-begun : goal.returns-clause-begun
+returns-clause-begun g c =
+    let kept = c.in_ok-write_waiting.ensures.keeps_else in
+    on_err c.commit_written.result (λ same i. begun_with ((same.0 ∙ kept.begun) i) (state g.S.Store ((same.1 ∙ kept.base) i))) c.commit_written.ensures.begun
 
-pub invariant_of-self-in-Err-clause-keeps : goal.invariant_of-self-in-Err-clause-keeps
-invariant_of-self-in-Err-clause-keeps g c =
-    let self = c.args.self.now in
-    keeps_uncommitted (state g.S.Store self.conn) (state g.S.Store c.commit.new.conn) (state g.S.Store self.opened.value) self.keeps c.in-Err.ensures.crash (λ before. self.inside before (mode_is _ _ c.if-is_autocommit.false c.is_autocommit.ensures.value)) self.now c.in-Err.ensures.failed
+pub returns-clause-same : goal.returns-clause-same
+returns-clause-same g c clean =
+    let store = g.S.Store in
+    let now = c.write_waiting.new.self in
+    let new = c.commit_written.new.self in
+    let it = c.in_ok-write_waiting.ensures in
+    let written = written_of (state store now.conn) (state store now.base.value) in
+    let held = held_in store c.args.self.now in
+    let is = written_held now.waiting.items written held it.none (it.content (c.commit_written.ensures.cleanness clean)) in
+    on_ok c.commit_written.result (λ same. held_written new.waiting now.waiting (written_of (state store new.conn) (state store new.base.value)) written held c.commit_written.ensures.waits it.none same is) (c.commit_written.ensures.same clean)
 
-pub returns-in-Ok-clause-stays : goal.returns-in-Ok-clause-stays
-returns-in-Ok-clause-stays g c clean =
-    let self = c.args.self.now in
-    left_stays (state g.S.Store self.conn) (state g.S.Store c.commit.new.conn) (state g.S.Store self.base.value) (c.in-Ok.ensures.done clean).was_open (c.in-Ok.ensures.stays clean)
+pub returns-clause-kept : goal.returns-clause-kept
+returns-clause-kept g c clean =
+    let store = g.S.Store in
+    let now = c.write_waiting.new.self in
+    let it = c.in_ok-write_waiting.ensures in
+    let is = written_held now.waiting.items (written_of (state store now.conn) (state store now.base.value)) (held_in store c.args.self.now) it.none (it.content (c.commit_written.ensures.cleanness clean)) in
+    on_ok c.commit_written.result (subst (λ (held : ShelfContent). LeavesOnly held (left_of (state store c.commit_written.new.self.conn))) is) (c.commit_written.ensures.kept clean)
 
-pub returns-in-Ok-clause-store : goal.returns-in-Ok-clause-store
-returns-in-Ok-clause-store g c = search rules depth 0 fits 100
+pub returns-clause-stays : goal.returns-clause-stays
+returns-clause-stays g c clean =
+    let store = g.S.Store in
+    let now = c.write_waiting.new.self in
+    let it = c.in_ok-write_waiting.ensures in
+    let is = written_held now.waiting.items (written_of (state store now.conn) (state store now.base.value)) (held_in store c.args.self.now) it.none (it.content (c.commit_written.ensures.cleanness clean)) in
+    on_ok c.commit_written.result (subst (left_of (state store c.commit_written.new.self.conn)) is) (c.commit_written.ensures.stays clean)
 
-pub invariant_of-self-in-Ok-clause-base_counted : goal.invariant_of-self-in-Ok-clause-base_counted
-invariant_of-self-in-Ok-clause-base_counted g c clean =
-    let self = c.args.self.now in
-    counted_snapshot (state g.S.Store c.commit.new.conn) (state g.S.Store c.of.result.value) self.within (ap (state g.S.Store) c.of.ensures)
-    (counted_committed (state g.S.Store self.conn) (state g.S.Store c.commit.new.conn) self.within self.now_counted (mode_is _ _ c.if-is_autocommit.false c.is_autocommit.ensures.value) c.in-Ok.ensures.crash c.in-Ok.ensures.done) clean
+pub returns-clause-left : goal.returns-clause-left
+returns-clause-left g c clean =
+    let store = g.S.Store in
+    let now = c.write_waiting.new.self in
+    let it = c.in_ok-write_waiting.ensures in
+    let before = c.commit_written.ensures.cleanness clean in
+    let written = written_of (state store now.conn) (state store now.base.value) in
+    let held = held_in store c.args.self.now in
+    let is = written_held now.waiting.items written held it.none (it.content before) in
+    on_err c.commit_written.result (leaves_held written held (left_of (state store c.args.self.now.conn)) (left_of (state store now.conn)) (left_of (state store c.commit_written.new.self.conn)) is (it.keeps_else.left before)) (c.commit_written.ensures.left clean)
 
-pub invariant_of-self-in-Err-clause-now_counted : goal.invariant_of-self-in-Err-clause-now_counted
-invariant_of-self-in-Err-clause-now_counted g c =
-    let self = c.args.self.now in
-    counted_failed (state g.S.Store self.conn) (state g.S.Store c.commit.new.conn) self.within self.now_counted c.in-Err.ensures.crash c.in-Err.ensures.failed
-
-pub invariant_of-self-in-Ok-clause-since : goal.invariant_of-self-in-Ok-clause-since
-invariant_of-self-in-Ok-clause-since g c = search rules depth 0 fits 100
-
-pub invariant_of-self-in-Err-clause-base_counted : goal.invariant_of-self-in-Err-clause-base_counted
-invariant_of-self-in-Err-clause-base_counted g c = search rules depth 0 fits 100
+pub returns-in_err-write_waiting-clause-left : goal.returns-in_err-write_waiting-clause-left
+returns-in_err-write_waiting-clause-left g c clean = with_err c.from_residual.result (λ k may. inl (c.in_err-write_waiting.ensures.keeps_else.left clean k may))

@@ -12,7 +12,7 @@ returns-then-is_autocommit-clause-number g c clean =
 pub returns-clause-number : goal.returns-clause-number
 returns-clause-number g c clean =
     let self = c.args.self.now in
-    inside_counted (state g.S.Store self.conn) (state g.S.Store self.base.value) self.within self.inside self.now_counted (mode_is _ _ c.if-is_autocommit.false c.is_autocommit.ensures.value) clean
+    inside_counted (state g.S.Store self.conn) (state g.S.Store self.base.value) self.within self.inside self.frontier self.now_known (mode_is _ _ c.if-is_autocommit.false c.is_autocommit.ensures.value) clean
 
 pub returns-then-is_autocommit-clause-tally : goal.returns-then-is_autocommit-clause-tally
 returns-then-is_autocommit-clause-tally g c = search rules depth 0 fits 100

@@ -1,6 +1,11 @@
-use Rattle.std.proofs.Common.{◌∙◌, ap, rules, sym}
+use Rattle.std.proofs.Common.{◌∙◌, ap, rules, subst, sym}
 use Rattle.sqlite.specs.Held.{state}
 use Rattle.pw_tariff.specs.Office.{office_of}
+use Rattle.pw_model.specs.Shelf.{IsTrueContent}
+use Rattle.pw_shelf.specs.Left.{LeavesOnly}
+use Rattle.pw_store.specs.Kept.{left_of, written_of}
+use Rattle.pw_store.specs.Opening.{IsFound}
+use Rattle.pw_store.specs.Waiting.{with_waiting}
 use Rattle.pw_store.proofs.Fresh.{left_alone, open_content, open_few, open_text, open_truth, opened_at, stands}
 use Rattle.pw_store.proofs.LeftStores.{opening_text}
 use Rattle.pw_store.proofs.shelf.SqlShelf.open_for.Goals as goal
@@ -14,7 +19,8 @@ returns-in-Ok-clause-content g c clean =
     let office = office_of c.args.office.now in
     let before = (state g.S.Store c.args.connection).committed in
     let it = opened_at (state g.S.Store c.prepare.new.conn) s office c.args.office_text.now before (ap (state g.S.Store) c.over.ensures.conn) c.in-Ok.ensures.opened clean in
-    open_content s (state g.S.Store c.over.result.base.value) office c.args.office_text.now before it
+    subst (λ waiting. IsFound office before (with_waiting waiting (written_of s (state g.S.Store c.over.result.base.value)))) (sym c.over.ensures.none)
+    (open_content s (state g.S.Store c.over.result.base.value) office c.args.office_text.now before it)
 
 pub returns-in-Ok-clause-few : goal.returns-in-Ok-clause-few
 returns-in-Ok-clause-few g c clean =
@@ -30,7 +36,8 @@ returns-in-Ok-clause-truth g c clean =
     let office = office_of c.args.office.now in
     let before = (state g.S.Store c.args.connection).committed in
     let it = opened_at (state g.S.Store c.prepare.new.conn) s office c.args.office_text.now before (ap (state g.S.Store) c.over.ensures.conn) c.in-Ok.ensures.opened clean in
-    open_truth s (state g.S.Store c.over.result.base.value) office c.args.office_text.now before it
+    subst (λ waiting. IsTrueContent office (with_waiting waiting (written_of s (state g.S.Store c.over.result.base.value)))) (sym c.over.ensures.none)
+    (open_truth s (state g.S.Store c.over.result.base.value) office c.args.office_text.now before it)
 
 pub returns-in-Ok-clause-kept_text : goal.returns-in-Ok-clause-kept_text
 returns-in-Ok-clause-kept_text g c clean =
@@ -46,7 +53,8 @@ returns-in-Ok-clause-left g c clean =
     let office = office_of c.args.office.now in
     let before = (state g.S.Store c.args.connection).committed in
     let it = opened_at (state g.S.Store c.prepare.new.conn) s office c.args.office_text.now before (ap (state g.S.Store) c.over.ensures.conn) c.in-Ok.ensures.opened clean in
-    left_alone s (state g.S.Store c.over.result.base.value) (stands s office c.args.office_text.now before it) (λ db live may. g.met.S.Store.settled c.over.result.conn.store db live may)
+    subst (λ waiting. LeavesOnly (with_waiting waiting (written_of s (state g.S.Store c.over.result.base.value))) (left_of s)) (sym c.over.ensures.none)
+    (left_alone s (state g.S.Store c.over.result.base.value) (stands s office c.args.office_text.now before it) (λ db live may. g.met.S.Store.settled c.over.result.conn.store db live may))
 
 pub returns-in-Ok-clause-opened : goal.returns-in-Ok-clause-opened
 returns-in-Ok-clause-opened g c clean =
