@@ -1,5 +1,5 @@
--- A conversation whose replies were flushed.
-use Rattle.std.proofs.Common.{◌≡◌, ◌∙◌, ap, ℕ, List, Option, Result, Ok, Err, false}
+-- A conversation that stopped before its end, and one whose replies were flushed.
+use Rattle.std.proofs.Common.{◌≡◌, ◌∙◌, ap, subst, sym, ℕ, List, Option, Result, Ok, Err, false}
 use Rattle.std.proofs.KnownBytes.{Appends-kept}
 use Rattle.std.specs.Io.KnownBytes.{Keeps}
 use Rattle.pw_model.specs.Shelf.{no_content}
@@ -14,6 +14,7 @@ use Rattle.pw_http.specs.declared.served.Served.{Served}
 use Rattle.pw_http.specs.Headline.{HasHeadline}
 use Rattle.pw_http.specs.Steps.{held}
 use Rattle.pw_commands.specs.Pipe.{IsPiped}
+use Rattle.pw_commands.specs.inner.Piping.{Pipes}
 
 module _ (shelf : Ghosts MemoryShelf) (unread left known after : Option (List ℕ)) (old new : Book MemoryShelf shelf) where
   open-still : (outcome : Result Served WireFault) → HasHeadline shelf Everybody unread left known after old new outcome → old.shut ≡ false →
@@ -35,6 +36,11 @@ module _ (shelf : Ghosts MemoryShelf) (unread left known after : Option (List �
     headline = h;
     is_known = (clean, open-still outcome h shut abandons);
   }
+
+-- whatever it answers with a fault, it is a conversation up to there
+pub stopped : (shelf : Ghosts MemoryShelf) {T : Type 0} (text : List ℕ) (unread left known after : Option (List ℕ)) (outcome : Result Served WireFault) (answer : Result T WireFault) (why : WireFault) →
+    answer ≡ Err why → IsPiped shelf text unread left known after outcome → Pipes shelf text unread left known after answer
+stopped shelf text unread left known after outcome answer why is p = subst (Pipes shelf text unread left known after) (sym is) (outcome, p)
 
 pub flushed : (shelf : Ghosts MemoryShelf) (text : List ℕ) (unread left known after end : Option (List ℕ)) (served : Served) →
     IsPiped shelf text unread left known after (Ok served) → Keeps after end → IsPiped shelf text unread left known end (Ok served)

@@ -9,7 +9,7 @@ ghost use Rattle.pw_tariff.specs.Text.{IsOfficeOf};
 ghost use Rattle.pw_model.specs.Laws.{HaveSameFigures};
 ghost use Rattle.pw_moving.specs.Laws.{IsKept};
 ghost use Rattle.pw_schema.specs.Judging.{KeepsOffice};
-ghost use Rattle.pw_store.specs.Kept.{held_of};
+ghost use Rattle.pw_store.specs.Kept.{written_of};
 ghost use Rattle.pw_store.specs.Opening.{KeepsText};
 ghost use Rattle.pw_commands.specs.Adoptions.{MayTake};
 
@@ -118,13 +118,9 @@ fn has_new<W: Watch>(
 ) -> Result<Weighed, Fault>
     requires { IsOfficeOf new_text.now new }
 {
-    match open_book(rt, store, Purpose::Ask, new, new_text, MOST_RECORDS, watch) {
-        Ok(book) => {
-            close_book(book)?;
-            told_as_new(rt.alloc())
-        }
-        Err(fault) => Err(fault),
-    }
+    let book = open_book(rt, store, Purpose::Ask, new, new_text, MOST_RECORDS, watch)?;
+    close_book(book)?;
+    told_as_new(rt.alloc())
 }
 
 fn told_as_new(alloc: Global) -> Result<Weighed, Fault> {
@@ -170,7 +166,7 @@ fn take_place<W: Watch>(
     requires open_yet { book.shut ≡ false }
     requires adopted { HasCleanDisk (file_state book.shelf.conn)
         → MayTake words.now (record { old = book.office; new = new.now })
-        (held_of (file_state book.shelf.conn) (file_state book.shelf.base.value)).records }
+        (written_of (file_state book.shelf.conn) (file_state book.shelf.base.value)).records }
 {
     match adopt_book(alloc, book, new, new_text, words, watch) {
         Ok(shelf) => close_store(shelf.close()),

@@ -11,7 +11,8 @@ ghost use Rattle.pw_tariff.specs.Text.{IsOfficeOf};
 ghost use Rattle.pw_model.specs.Office.{AllOfOffice, most_records};
 ghost use Rattle.pw_model.specs.Shelf.{IsTrueContent, ShelfContent};
 ghost use Rattle.pw_shelf.specs.Left.{LeavesOnly};
-ghost use Rattle.pw_store.specs.Kept.{held_of, left_of};
+ghost use Rattle.pw_store.specs.Kept.{left_of};
+ghost use Rattle.pw_store.specs.OpenStore.{held_in};
 ghost use Rattle.pw_book.specs.Crashes.{IsLeftWhole};
 ghost use Rattle.pw_words.specs.Words.{IsLimit};
 ghost use Rattle.pw_commands.specs.Crashes.{HoldsWhole, IsCrashed};
@@ -81,17 +82,17 @@ fn post_in_turn<S: Alter>(
     requires limit { IsLimit limit }
     requires posted { All (λ sent. AllOfOffice (office_of office) sent.entries.items) uploads.old }
     requires few { HasCleanDisk (state S.Store shelf.conn)
-        → length (held_of (state S.Store shelf.conn) (state S.Store shelf.base.value)).records
+        → length (held_in S.Store shelf).records
         ≤ most_records }
     requires truth { HasCleanDisk (state S.Store shelf.conn)
         → IsTrueContent (office_of office)
-        (held_of (state S.Store shelf.conn) (state S.Store shelf.base.value)) }
+        (held_in S.Store shelf) }
     requires of_office { HasCleanDisk (state S.Store shelf.conn)
         → AllOfOffice (office_of office)
-        (held_of (state S.Store shelf.conn) (state S.Store shelf.base.value)).records }
+        (held_in S.Store shelf).records }
     requires idle { shelf.begun ≡ false }
     requires settled { HasCleanDisk (state S.Store shelf.conn)
-        → LeavesOnly (held_of (state S.Store shelf.conn) (state S.Store shelf.base.value))
+        → LeavesOnly (held_in S.Store shelf)
         (left_of (state S.Store shelf.conn)) }
     ensures entries { map (λ sent. sent.entries) uploads.new
         ≡ map (λ sent. sent.entries) uploads.old }
@@ -101,7 +102,7 @@ fn post_in_turn<S: Alter>(
     ensures left { HasCleanDisk (state S.Store result.conn) → (c : ShelfContent)
         → left_of (state S.Store result.conn) c
         → IsLeftWhole (office_of office)
-        (held_of (state S.Store shelf.conn) (state S.Store shelf.base.value)).records uploads.new
+        (held_in S.Store shelf).records uploads.new
         c }
 {
     let mut book = Book::new(office, Zone::central(), shelf, limit);

@@ -66,11 +66,9 @@ fn pipe_in<R: Read, O: Write>(
         (O.contents out.old) (O.contents out.new) result }
 {
     let mut book = Book::new(office, Zone::central(), MemoryShelf::new(alloc), limit);
-    match converse(alloc, &mut book, reader, out) {
-        Err(fault) => Err(fault),
-        Ok(_) => match out.flush() {
-            Ok(()) => Ok(()),
-            Err(_) => Err(WireFault::Write),
-        },
+    converse(alloc, &mut book, reader, out)?;
+    match out.flush() {
+        Ok(()) => Ok(()),
+        Err(_) => Err(WireFault::Write),
     }
 }

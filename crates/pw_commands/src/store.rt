@@ -125,10 +125,7 @@ pub fn open_from<D: Disk + Drop, W: Watch>(
     ensures untouched { IfErr result (λ e. e.0 ≡ Fault.Unopened Cause.LogAlone
         → OnlyReads D.Disk files.log e.1.log × OnlyReads D.Disk files.db e.1.db) }
 {
-    let connection = match connection_in(alloc, files, options, purpose) {
-        Ok(connection) => connection,
-        Err(refused) => return Err(refused),
-    };
+    let connection = connection_in(alloc, files, options, purpose)?;
     match book_over(alloc, connection, office, text, limit, watch) {
         Ok(book) => Ok(book),
         Err((fault, connection)) => Err((Fault::Store(fault), files_under(connection))),
@@ -220,10 +217,8 @@ fn book_over<S: Alter, W: Watch>(
         × WasHeld (office_of office) (state S.Store connection).committed
         (⟦<SqlShelf<S> as Shelf>⟧.state book.shelf).content) }
 {
-    match SqlShelf::open_watched(alloc, connection, text, watch) {
-        Ok(shelf) => Ok(Book::new(office, Zone::central(), shelf, limit)),
-        Err(refused) => Err(refused),
-    }
+    let shelf = SqlShelf::open_watched(alloc, connection, text, watch)?;
+    Ok(Book::new(office, Zone::central(), shelf, limit))
 }
 
 /// Closes a book's store. What was committed stands in the file already; `Device` where the file can't be tidied.

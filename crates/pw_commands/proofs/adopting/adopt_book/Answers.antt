@@ -3,14 +3,14 @@ use Rattle.sqlite.specs.Held.{state}
 use Rattle.sqlite.specs.State.{HasCleanDisk}
 use Rattle.pw_tariff.specs.Office.{office_of}
 use Rattle.pw_model.specs.Laws.{HaveSameFigures}
-use Rattle.pw_store.specs.Kept.{held_of}
+use Rattle.pw_store.specs.OpenStore.{held_in}
 use Rattle.pw_store.proofs.OneOffice.{opened-of-office, opened-true}
 use Rattle.pw_commands.proofs.Figures.{figures-stay, if_ok_more}
 use Rattle.pw_commands.proofs.adopting.adopt_book.Goals as goal
 
 pub returns-clause-content : goal.returns-clause-content
 returns-clause-content g c =
-    subst (λ shelf. IfOk c.adopt.result (λ s. HasCleanDisk (state g.S.Store s.conn) → held_of (state g.S.Store s.conn) (state g.S.Store s.base.value) ≡ held_of (state g.S.Store shelf.conn) (state g.S.Store shelf.base.value)))
+    subst (λ shelf. IfOk c.adopt.result (λ s. HasCleanDisk (state g.S.Store s.conn) → held_in g.S.Store s ≡ held_in g.S.Store shelf))
     c.into_shelf.ensures c.adopt.ensures.same
 
 pub returns-clause-kept : goal.returns-clause-kept
