@@ -1,5 +1,6 @@
 -- A store that was given another office file: its content, what refuses its rows, and what a crash leaves of it.
-use Rattle.std.proofs.Common.{◌≡◌, inl, inr, Result, IfErr, OnErr, IsTrue, false, ℕ, List, unwrap_or, length, sym, ap, subst, ◌∙◌, arith, Bool, cond}
+use Rattle.std.proofs.Common.{◌≡◌, ◌≤◌, inl, inr, Result, IfErr, OnErr, IsTrue, false, ℕ, List, unwrap_or, length, sym, ap, subst, ◌∙◌, arith, Bool, cond}
+use Rattle.std.proofs.lemmas.Result.{IfErr-weaker}
 use Rattle.sqlite.specs.Order.{Row}
 use Rattle.sqlite.specs.Tree.{Trees}
 use Rattle.sqlite.specs.Effect.{Database, IsDatabase}
@@ -8,6 +9,7 @@ use Rattle.sqlite.proofs.StateLemmas.{survives_then}
 use Rattle.pw_tariff.specs.Office.{OfficeRules}
 use Rattle.pw_model.specs.declared.records.TotalKey.{TotalKey}
 use Rattle.pw_model.specs.declared.records.TotalKey.TheVariants as total
+use Rattle.pw_model.specs.Office.{AllOfOffice, most_records}
 use Rattle.pw_model.specs.Shelf.{IsTrueContent}
 use Rattle.pw_schema.specs.Conflicts.{AreWithoutConflict}
 use Rattle.pw_schema.specs.declared.kind.RecordKind.TheVariants.{Readings, Assignments}
@@ -16,11 +18,11 @@ use Rattle.pw_schema.specs.declared.kind.StoreVersion.TheVariants.{Third}
 use Rattle.pw_schema.specs.Fresh.{IsWithin}
 use Rattle.pw_schema.specs.Judging.{KeepsOffice}
 use Rattle.pw_schema.specs.Raised.{HasSame, all_but_office, lasting_trees}
-use Rattle.pw_schema.specs.Tables.{schema_of}
+use Rattle.pw_schema.specs.Tables.{IsOurs, schema_of}
 use Rattle.pw_schema.proofs.Outcomes.{early, on_err}
 use Rattle.pw_store.specs.Content.{content_of, energy_told, energy_tree, payment_told, payment_tree, point_in, point_tree, records_of, start_in, start_tree, total_in, total_tree}
 use Rattle.pw_store.specs.Kept.{IsIdle, IsStore, written_of}
-use Rattle.pw_store.specs.Left.{AdoptedHolds, AdoptedOpens, AdoptionRefuses, IsAdopted, MayBeAdopted, SuitsOffice}
+use Rattle.pw_store.specs.Left.{AdoptedHolds, AdoptedOpens, AdoptionRefuses, IsAdopted, IsOfText, MayBeAdopted, SuitsOffice}
 use Rattle.pw_store.specs.Opening.{HoldsKept, HoldsSums, HoldsTotals, IsSpoilt, KeepsText}
 use Rattle.pw_store.specs.inner.Opened.{HasAdopted, IsReplaced, IsSound, RowsRefuse}
 use Rattle.pw_store.specs.declared.fault.OpenFault.{OpenFault}
@@ -29,7 +31,6 @@ use Rattle.pw_store.proofs.Filled.{all_on, kinds_on, records_on, within_on}
 use Rattle.pw_store.proofs.LeftStores.{rows_of}
 use Rattle.pw_store.proofs.OfContent.{records_held, sums_held}
 use Rattle.pw_store.proofs.Openable.{opens_version}
-use Rattle.pw_store.proofs.Raised.{if_err}
 use Rattle.pw_store.proofs.Reopening.{found_ours}
 
 -- ---- what has stayed
@@ -155,7 +156,7 @@ adopted_survives office body old mid new ready one two =
 -- ---- behind what settled the connection
 pub settled_refuses : {A : Type 0} (r : Result A OpenFault) (office : OfficeRules) (mid : Database) (before : Database) → mid ≡ before → IsStore before → IfErr r (RowsRefuse Third office mid.trees) → IfErr r (AdoptionRefuses office (content_of before.trees) before.trees)
 settled_refuses r office mid before is store =
-    if_err r (RowsRefuse Third office mid.trees) (AdoptionRefuses office (content_of before.trees) before.trees)
+    IfErr-weaker r (RowsRefuse Third office mid.trees) (AdoptionRefuses office (content_of before.trees) before.trees)
     (λ fault it. adoption_refused office before fault store (subst (λ (d : Database). RowsRefuse Third office d.trees fault) is it))
 
 pub settled_survives : {A : Type 0} (r : Result A OpenFault) (office : OfficeRules) (body : List ℕ) (old mid new : State) → (HasCleanDisk mid → mid.now ≡ old.committed) → Survives old mid (λ _. ⊥) → Survives mid new (MayBeAdopted office body mid.now)
@@ -172,6 +173,26 @@ module _ (old base : State) where
   pub adopted_held : (office : OfficeRules) (body : List ℕ) (new fresh : State) (begun : Bool) → IsIdle old begun → begun ≡ false → HasCleanDisk old → IsTrue old.is_open → HasAdopted office body old.committed new → written_of new fresh ≡ written_of old base
   adopted_held office body new fresh begun idle none clean live it =
       ap (λ b. content_of (cond b new.now.trees fresh.committed.trees)) it.standing.is_open ∙ same_content old.committed.trees new.now.trees it.adopted.same ∙ sym (held_before begun idle none clean live)
+
+-- ---- what is held over a connection on which another text was put
+module _ (s base : State) (office : OfficeRules) (body : List ℕ) (before : Database) (it : HasAdopted office body before s) where
+  open_trees : s.now.trees ≡ cond s.is_open s.now.trees base.committed.trees
+  open_trees = sym (ap (λ b. cond b s.now.trees base.committed.trees) it.standing.is_open)
+
+  pub adopted_of_office : AllOfOffice office (written_of s base).records
+  adopted_of_office = subst (λ (db : Trees). AllOfOffice office (records_of db)) open_trees it.adopted.openable.of_office
+
+  pub adopted_few : length (written_of s base).records ≤ most_records
+  adopted_few = subst (λ (db : Trees). length (records_of db) ≤ most_records) open_trees it.adopted.openable.few
+
+  pub adopted_truth : IsTrueContent office (written_of s base)
+  adopted_truth = subst (λ (db : Trees). IsTrueContent office (content_of db)) open_trees it.adopted.openable.truth
+
+  pub adopted_text : IsOurs s.now.schema × KeepsText (KeepsOffice body) s.now.trees
+  adopted_text = (it.adopted.openable.ours.schema_is, it.adopted.openable.text)
+
+  pub adopted_opened : (at : State) → at ≡ s → IsOfText office body at.now.trees
+  adopted_opened at is = subst (λ (o : State). IsOfText office body o.now.trees) (sym is) (it.adopted.openable.text, (it.adopted.openable.named, it.adopted.openable.ours.plain))
 
 -- ---- the connections under the names that the shelves have
 module _ (old taken mid new : State) (same : taken ≡ old) (is : new ≡ mid) where

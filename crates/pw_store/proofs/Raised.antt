@@ -2,6 +2,7 @@
 use Rattle.std.proofs.Common.{◌≡◌, ◌≤◌, inl, inr, Result, Ok, Err, IfErr, OnOk, OnErr, ℕ, false, List, [], map, unwrap_or, length, refl, sym, ap, subst, ◌∙◌, arith}
 use Rattle.std.specs.List.{AllByRecursion}
 use Rattle.std.specs.List.Sorted.{IsPermutation}
+use Rattle.std.proofs.lemmas.Result.{IfErr-weaker}
 use Rattle.sqlite.specs.Order.{Row}
 use Rattle.sqlite.specs.Tree.{Trees}
 use Rattle.sqlite.specs.Effect.{Database, IsDatabase}
@@ -280,14 +281,10 @@ pub on_ok : {A : Type 0} (r : Result A OpenFault) (P Q R : Type 0) → (P → Q 
 on_ok (Ok a) P Q R f p q = f p q
 on_ok (Err fault) P Q R f p q = tt
 
-pub if_err : {A : Type 0} (r : Result A OpenFault) (P Q : OpenFault → Type 0) → ((fault : OpenFault) → P fault → Q fault) → IfErr r P → IfErr r Q
-if_err (Ok a) P Q f h = tt
-if_err (Err fault) P Q f h = f fault h
-
 -- a call that judges the rows of the version that was found refuses the store for what is so of what was found
 pub version_refuses : {A : Type 0} (v w : StoreVersion) (office : OfficeRules) (body : List ℕ) (s0 s1 : State) (r : Result A OpenFault) → w ≡ v → IsUnchanged s0 s1 → HoldsTables w s1.now → KeepsText (KeepsVersion w body) s1.now.trees → IfErr r (RowsRefuse v office s1.now.trees)
     → IfErr r (BegunRefuses office body s0.now)
-version_refuses v w office body s0 s1 r is same ours text = if_err r (RowsRefuse v office s1.now.trees) (BegunRefuses office body s0.now)
+version_refuses v w office body s0 s1 r is same ours text = IfErr-weaker r (RowsRefuse v office s1.now.trees) (BegunRefuses office body s0.now)
     (λ fault it. rows_refuse v office body s0 s1 fault same (subst (λ x. HoldsTables x s1.now) is ours) (subst (λ x. KeepsText (KeepsVersion x body) s1.now.trees) is text) it)
 
 begun_refuses : (office : OfficeRules) (body : List ℕ) (db : Database) (fault : OpenFault) → BeginsAsOurs db.schema → BegunRefuses office body db fault → Refuses office body db fault
@@ -299,7 +296,7 @@ begun_refuses office body db Unclean b r = inr (b, r)
 
 -- of what was committed, where nothing waits
 pub committed_refuses : {A : Type 0} (r : Result A OpenFault) (office : OfficeRules) (body : List ℕ) (s : State) → s.now ≡ s.committed → BeginsAsOurs s.now.schema → IfErr r (BegunRefuses office body s.now) → IfErr r (Refuses office body s.committed)
-committed_refuses r office body s settled b h = if_err r (BegunRefuses office body s.now) (Refuses office body s.committed) (λ fault it. subst (λ (d : Database). Refuses office body d fault) settled (begun_refuses office body s.now fault b it)) h
+committed_refuses r office body s settled b h = IfErr-weaker r (BegunRefuses office body s.now) (Refuses office body s.committed) (λ fault it. subst (λ (d : Database). Refuses office body d fault) settled (begun_refuses office body s.now fault b it)) h
 
 pub committed_survives : (office : OfficeRules) (body : List ℕ) (old new : State) → (HasCleanDisk old → old.now ≡ old.committed) → Survives old new (MayBeUpgraded office body old.now) → Survives old new (MayBeMade office body old)
 committed_survives office body old new settled s =
