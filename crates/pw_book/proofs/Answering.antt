@@ -7,7 +7,7 @@ use Rattle.pw_model.specs.Office.{most_records}
 use Rattle.pw_model.specs.Shelf.{ShelfContent}
 use Rattle.pw_tariff.specs.Office.{OfficeRules}
 use Rattle.pw_book.specs.inner.Added.{LeavesWithUpload}
-use Rattle.pw_book.specs.inner.Fresh.{AreFresh, fresh_of}
+use Rattle.pw_book.specs.inner.Fresh.{AreFresh}
 use Rattle.pw_shelf.specs.Left.{LeavesNoMore}
 use Rattle.pw_book.specs.declared.book.Accepted.{Accepted}
 use Rattle.pw_book.specs.declared.fault.PostFault.{PostFault}
@@ -15,7 +15,7 @@ use Rattle.pw_book.specs.declared.fault.PostFault.TheVariants.{Full}
 use Rattle.pw_book.specs.declared.fault.BookFault.{BookFault}
 use Rattle.pw_book.specs.declared.fault.BookFault.TheVariants.{Device, Memory, Reopen}
 use Rattle.pw_book.specs.Faults.{post_fault_of}
-use Rattle.pw_book.specs.Posting.{HasRoom, IsWithUpload, IsAccepted, IsFull, IsPosted, LeavesUpload, LeavesPosted, fresh_in, repeated_in}
+use Rattle.pw_book.specs.Posting.{HasRoom, IsWithUpload, IsAccepted, IsFull, IsPosted, LeavesUpload, LeavesPosted, fresh_in, fresh_of, repeated_in}
 use Rattle.pw_book.proofs.EachOne.{count-joined, count-parts, fresh-same, record-count, record-count_same, repeated-held}
 use Rattle.pw_book.proofs.NotHeld.{are-fresh, fresh-joined, fresh-length}
 

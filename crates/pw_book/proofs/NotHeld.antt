@@ -1,6 +1,7 @@
 -- The entries of an upload that aren't held.
 use Rattle.std.proofs.Common.{◌≡◌, ℕ, ◌+◌, ◌<◌, ◌≤◌, Bool, true, false, cond, not, List, [], ◌∷◌, ◌++◌, length, take, get_or, refl, ap, sym, ◌∙◌, inl, inr, arith}
 use Rattle.std.proofs.lemmas.Bool.{cases_Bool, true≢false}
+use Rattle.std.proofs.lemmas.List.{append-nil}
 use Rattle.std.proofs.lemmas.List.Elements.{filter_more}
 use Rattle.pw_model.specs.declared.records.Entry.{Entry}
 use Rattle.pw_model.specs.Counting.{Member, EachOnce, SameMembers}
@@ -9,16 +10,16 @@ use Rattle.pw_model.specs.Same.{same_entry}
 use Rattle.pw_model.proofs.Once.{stands-decides}
 use Rattle.pw_model.proofs.Places.{member-left, member-right, member-split}
 use Rattle.pw_model.proofs.Same.{same_entry-decides}
-use Rattle.pw_book.specs.Posting.{fresh_in}
-use Rattle.pw_book.specs.inner.Fresh.{AreFresh, fresh_of}
+use Rattle.pw_book.specs.Posting.{fresh_in, fresh_of}
+use Rattle.pw_book.specs.inner.Fresh.{AreFresh}
 use Rattle.pw_book.proofs.EachOne.{once-step}
 use Rattle.pw_model.proofs.Filtered.{filtered-member, filtered-once, member-filtered}
 
 module _ (held : List Entry) where
-  abbrev is_fresh : Entry → Bool
+  abbrev pub is_fresh : Entry → Bool
   is_fresh e = not (stands_in same_entry e held)
 
-  stands : (e : Entry) → (stands_in same_entry e held ≡ true → Member e held) × (Member e held → stands_in same_entry e held ≡ true)
+  pub stands : (e : Entry) → (stands_in same_entry e held ≡ true → Member e held) × (Member e held → stands_in same_entry e held ≡ true)
   stands e = stands-decides same_entry same_entry-decides (λ x. 0) e held
 
   fresh-apart : (e : Entry) → is_fresh e ≡ true → Member e held → ⊥
@@ -58,7 +59,7 @@ module _ (held : List Entry) where
     ],
   )
 
-  -- one entry more is looked up
+  -- ---- one entry more is looked up
   turned : (b : Bool) (e : Entry) → let none : List Entry = [] in cond b none (e ∷ []) ≡ cond (not b) (e ∷ []) none
   turned true e = refl
   turned false e = refl
@@ -70,6 +71,14 @@ module _ (held : List Entry) where
       ∙ ap (λ (l : List Entry). fresh_of held (take i xs) ++ l) (turned b e ∙ ap (λ (c : Bool). cond (not c) (e ∷ []) []) s)
       ∙ ap (λ (x : Entry). fresh_of held (take i xs) ++ cond (is_fresh x) (x ∷ []) []) g
       ∙ sym (filter_more is_fresh xs i e l)
+
+-- it is held
+pub passed : (was now : List Entry) (e : Entry) (b : Bool) → b ≡ true → now ≡ was → now ≡ was ++ cond b [] (e ∷ [])
+passed was now e b h n = n ∙ sym (append-nil was) ∙ ap (λ (x : Bool). was ++ cond x [] (e ∷ [])) (sym h)
+
+-- it isn't
+pub put : (was now : List Entry) (e : Entry) (b : Bool) → b ≡ false → now ≡ was ++ e ∷ [] → now ≡ was ++ cond b [] (e ∷ [])
+put was now e b h n = n ∙ ap (λ (x : Bool). was ++ cond x [] (e ∷ [])) (sym h)
 
 -- one more at most
 pub one-more : (was : List Entry) (e : Entry) (b : Bool) → length (was ++ cond b [] (e ∷ [])) ≤ length was + 1

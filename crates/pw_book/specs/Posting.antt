@@ -1,6 +1,6 @@
 -- What an upload does to the records held.
 -- (Definitions of this project.)
-use Rattle.std.specs.Prelude.{◌≡◌, ℕ, ◌+◌, ◌<◌, ◌≤◌, ◌⊎◌, Bool, true, false, cond, List, ◌++◌, Result, Ok, Err, OnOk, length}
+use Rattle.std.specs.Prelude.{◌≡◌, ℕ, ◌+◌, ◌<◌, ◌≤◌, ◌⊎◌, Bool, true, false, cond, not, List, ◌++◌, Result, Ok, Err, OnOk, filter, length}
 use Rattle.pw_model.specs.declared.records.Entry.{Entry}
 use Rattle.pw_model.specs.Counting.{EachOnce, SameMembers}
 use Rattle.pw_model.specs.Lists.{record_count}
@@ -15,7 +15,12 @@ use Rattle.pw_book.specs.declared.book.Accepted.{Accepted}
 use Rattle.pw_book.specs.declared.fault.PostFault.{PostFault}
 use Rattle.pw_book.specs.declared.fault.PostFault.TheVariants.{Full, Device, Memory, Reopen}
 
--- ---- entries of an upload, each counted once
+-- ---- entries of an upload
+-- those that aren't held, in their order
+abbrev pub fresh_of : List Entry → List Entry → List Entry
+fresh_of held entries = filter (λ e. not (stands_in same_entry e held)) entries
+
+-- ---- each counted once
 -- how many aren't held
 abbrev pub fresh_in : List Entry → List Entry → ℕ
 fresh_in held entries = sum_once same_entry (λ e. cond (stands_in same_entry e held) 0 1) entries

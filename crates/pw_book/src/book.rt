@@ -24,7 +24,6 @@ use pw_shelf::Shelf;
 use pw_tariff::Office;
 use pw_time::Zone;
 use std::alloc::Global;
-use std::fmt;
 
 /// What an accepted upload brought: its distinct entries that weren't held before, and those that were.
 #[derive(Clone, Copy, Debug, PartialEq, Eq)]
@@ -45,18 +44,6 @@ impl Accepted {
         line.push_str(" repeated ");
         push_number(&mut line, repeated as u64);
         line
-    }
-}
-
-/// The acceptance line without its end.
-impl fmt::Display for Accepted {
-    ghost use Rattle.std.specs.Prelude.{Some};
-    ghost use Rattle.pw_book.specs.Acceptance.{acceptance_line};
-
-    ghost output = { λ accepted. Some (acceptance_line accepted) };
-
-    fn fmt<W: fmt::Write>(&self, f: &mut fmt::Formatter<W>) -> fmt::Result {
-        f.write_str(self.line().as_str())
     }
 }
 

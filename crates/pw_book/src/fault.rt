@@ -1,6 +1,6 @@
 //! Why a call of the book fails.
 
-ghost use Rattle.std.specs.Prelude.{◌≡◌, ◌<◌, Some};
+ghost use Rattle.std.specs.Prelude.{◌≡◌, ◌<◌};
 ghost use Rattle.arrayvec.specs.ArrayString.{array_string_len};
 ghost use Rattle.pw_book.specs.Faults.{book_fault, book_line, book_told, full_line, post_fault, post_fault_of, post_line, post_told};
 ghost use Rattle.pw_book.specs.declared.fault.BookFault.TheVariants as book;
@@ -9,7 +9,6 @@ ghost use Rattle.pw_book.specs.declared.fault.PostFault.TheVariants as post;
 use pw_line::{Line, ROOM, push_number, refused};
 use pw_shelf::ShelfFault;
 use std::alloc::AllocError;
-use std::fmt;
 
 /// Why an upload isn't accepted.
 #[derive(Clone, Copy, Debug, PartialEq, Eq)]
@@ -124,24 +123,6 @@ impl BookFault {
         ensures fits { array_string_len result < ROOM }
     {
         refused(self.number(), self.name())
-    }
-}
-
-/// The fault line without its end.
-impl fmt::Display for PostFault {
-    ghost output = { λ fault. Some (post_line fault) };
-
-    fn fmt<W: fmt::Write>(&self, f: &mut fmt::Formatter<W>) -> fmt::Result {
-        f.write_str(self.line().as_str())
-    }
-}
-
-/// The fault line without its end.
-impl fmt::Display for BookFault {
-    ghost output = { λ fault. Some (book_line fault) };
-
-    fn fmt<W: fmt::Write>(&self, f: &mut fmt::Formatter<W>) -> fmt::Result {
-        f.write_str(self.line().as_str())
     }
 }
 

@@ -26,6 +26,7 @@ mod withdrawn;
 pub use basis::Basis;
 pub use book::{Accepted, Book};
 pub use fault::{BookFault, PostFault};
+pub use posting::not_held;
 pub use pw_model::{Content, Dispute, Distinct, Entry, Fall, Key, Named, ReadingRow, Reference};
 pub use pw_obis::{Register, WattHours};
 pub use pw_parts::{Parts, true_parts};

@@ -3,14 +3,12 @@
 ghost use Rattle.std.specs.Prelude.{◌≡◌, ◌+◌, ◌<◌, ◌≤◌, ◌^◌, IfOk, IsErrOf, IsNone, MatchResult, Some, length};
 ghost use Rattle.pw_model.specs.declared.records.Entry.{Entry as AnEntry};
 ghost use Rattle.pw_model.specs.Counting.{Member};
-ghost use Rattle.pw_model.specs.Lists.{record_count};
 ghost use Rattle.pw_model.specs.Office.{AllOfOffice, most_records};
 ghost use Rattle.pw_tariff.specs.Office.{IsSound, office_of};
 ghost use Rattle.pw_book.specs.Cost.{IsCheap};
 ghost use Rattle.pw_shelf.specs.Calls.{failures_told};
 ghost use Rattle.pw_book.specs.Asking.{IsOnlyAsked};
-ghost use Rattle.pw_book.specs.Posting.{FailuresPosted, IsPosted, LeavesPosted};
-ghost use Rattle.pw_book.specs.inner.Fresh.{fresh_of};
+ghost use Rattle.pw_book.specs.Posting.{FailuresPosted, IsPosted, LeavesPosted, fresh_of};
 ghost use Rattle.pw_book.specs.inner.Steps.{HasTrueContent, HoldsOffice};
 ghost use Rattle.pw_book.specs.declared.fault.PostFault.TheVariants.{Full, Reopen};
 
@@ -100,23 +98,25 @@ fn weigh<S: Shelf>(
     Ok((held, fresh))
 }
 
-// Those of an upload's distinct entries that aren't held.
-fn not_held<S: Shelf>(
+/// Those of some entries that a store doesn't hold, in their order, each as often as it stands there.
+///
+/// It asks for a store with no upload begun, asks it once for each entry, and leaves its records as they are.
+pub fn not_held<S: Shelf>(
     shelf: &mut S,
     alloc: Global,
-    distinct: &[Entry],
+    entries: &[Entry],
 ) -> Result<Vec<Entry>, ShelfFault>
     requires idle { IsNone (S.state shelf.old).begun }
     ensures fresh { S.clean shelf.new → IfOk result
-        (λ fresh. fresh.items ≡ fresh_of (S.state shelf.old).content.records distinct.now) }
-    ensures few { IfOk result (λ fresh. length fresh.items ≤ length distinct.now) }
+        (λ fresh. fresh.items ≡ fresh_of (S.state shelf.old).content.records entries.now) }
+    ensures few { IfOk result (λ fresh. length fresh.items ≤ length entries.now) }
     ensures part { IfOk result (λ fresh. (e : AnEntry) → Member e fresh.items
-        → Member e distinct.now) }
-    ensures tally { (S.state shelf.new).tally ≤ (S.state shelf.old).tally + length distinct.now }
+        → Member e entries.now) }
+    ensures tally { (S.state shelf.new).tally ≤ (S.state shelf.old).tally + length entries.now }
     ensures asked { IsOnlyAsked S.Shelf (failures_told result) shelf.old shelf.new }
 {
     let mut fresh = Vec::new(alloc);
-    for entry in distinct {
+    for entry in entries {
         if !is_held(shelf, entry)? {
             fresh.push(*entry)?;
         }

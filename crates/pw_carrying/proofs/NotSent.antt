@@ -22,11 +22,11 @@ use Rattle.pw_model.proofs.Places.{at-member, member-at}
 use Rattle.pw_model.proofs.Same.{same_entry-decides}
 use Rattle.pw_shelf.specs.Orders.{record_order}
 use Rattle.pw_shelf.proofs.InOrder.{order_exact, order_total}
+use Rattle.pw_book.specs.Posting.{fresh_of}
 use Rattle.pw_book.specs.inner.Places.{key_place}
 use Rattle.pw_book.proofs.Contested.{key-before, key-within}
 use Rattle.pw_book.proofs.NotHeld.{fresh-more}
 use Rattle.pw_book.proofs.Segments.{segment-all, segment-more, segment-none}
-use Rattle.pw_carrying.specs.Lacking.{lacking_in}
 use Rattle.pw_carrying.specs.Unsent.{AreUnsent}
 use Rattle.pw_carrying.specs.declared.lists.HeldList.{HeldList}
 use Rattle.pw_carrying.specs.inner.Stages.{IsListOf, IsOfList, list_place}
@@ -62,10 +62,10 @@ sent-told sent e b h =
 
 -- ---- what is left of a list
 -- one record more is looked at
-pub lacking-next : (sent xs : List Entry) (i : ℕ) (e : Entry) (old was now : List Entry) (b : Bool) → i < length xs → e ≡ get_or xs i e → b ≡ stands_in same_entry e sent → was ≡ old ++ lacking_in sent (take i xs) → now ≡ was ++ cond b [] (e ∷ []) →
-    now ≡ old ++ lacking_in sent (take (i + 1) xs)
+pub lacking-next : (sent xs : List Entry) (i : ℕ) (e : Entry) (old was now : List Entry) (b : Bool) → i < length xs → e ≡ get_or xs i e → b ≡ stands_in same_entry e sent → was ≡ old ++ fresh_of sent (take i xs) → now ≡ was ++ cond b [] (e ∷ []) →
+    now ≡ old ++ fresh_of sent (take (i + 1) xs)
 lacking-next sent xs i e old was now b l g s w n =
-    let before = lacking_in sent (take i xs) in
+    let before = fresh_of sent (take i xs) in
     n ∙ ap (λ (ys : List Entry). ys ++ cond b [] (e ∷ [])) w
     ∙ append_assoc old before (cond b [] (e ∷ []))
     ∙ ap (λ (ys : List Entry). old ++ ys) (fresh-more sent xs i e before (before ++ cond b [] (e ∷ [])) b l g s refl refl)
@@ -82,9 +82,9 @@ module _ (p : Entry → Bool) where
   ]
 
 module _ (office : OfficeRules) (sent : List Entry) where
-  left-of : (Of : HeldList) (records held : List Entry) → ListsHeld (IsOfList Of) records held → Lists entry_order (λ e. (Member e records × (Member e sent → ⊥)) × IsOfList Of e.key) (lacking_in sent held)
+  left-of : (Of : HeldList) (records held : List Entry) → ListsHeld (IsOfList Of) records held → Lists entry_order (λ e. (Member e records × (Member e sent → ⊥)) × IsOfList Of e.key) (fresh_of sent held)
   left-of Of records held h =
-      let left = are-lacking sent held (lacking_in sent held) refl in
+      let left = are-lacking sent held (fresh_of sent held) refl in
       record {
         rising = rising-filtered (λ e. not (stands_in same_entry e sent)) held h.rising;
         members = λ e. (
@@ -97,13 +97,13 @@ module _ (office : OfficeRules) (sent : List Entry) where
       }
 
   -- the list at the next place
-  pub unsent-more : (l : HeldList) (records held more old new : List Entry) → IsListOf office.meters l → (AllOfOffice office records → ListsHeld (IsOfList l) records held) → more ≡ lacking_in sent held → new ≡ old ++ more →
+  pub unsent-more : (l : HeldList) (records held more old new : List Entry) → IsListOf office.meters l → (AllOfOffice office records → ListsHeld (IsOfList l) records held) → more ≡ fresh_of sent held → new ≡ old ++ more →
       AddsUnsent office records sent (list_place office.meters l) (list_place office.meters l + 1) old new
   unsent-more l records held more old new h rows e f of before =
       let F : List Entry → Type 0 = λ xs. UnsentBefore office records sent (list_place office.meters l + 1) xs in
       let P : Entry → Type 0 = λ x. Member x records × (Member x sent → ⊥) in
       subst F (sym (f ∙ ap (λ (xs : List Entry). old ++ xs) e))
-      (segment-more entry_order P (λ x. IsOfList l x.key) (λ x. key_place office.meters x.key) (list_place office.meters l) old (lacking_in sent held) before (left-of l records held (rows of))
+      (segment-more entry_order P (λ x. IsOfList l x.key) (λ x. key_place office.meters x.key) (list_place office.meters l) old (fresh_of sent held) before (left-of l records held (rows of))
       (λ x m. list-place office.meters l h x.key (key-within office x.key x.content (of x m.0)))
       (λ x y m n p. entry-before x y (key-before office.meters x.key y.key (key-within office x.key x.content (of x m.0)) (key-within office y.key y.content (of y n.0)) p)))
 

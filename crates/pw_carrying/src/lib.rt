@@ -9,7 +9,6 @@ mod progress;
 mod readings;
 mod renamed;
 mod sending;
-mod shelf_calls;
 mod waiting;
 
 pub use carrying::carry_into;

@@ -1,15 +1,12 @@
 //! What was sent, and what a book holds of it.
 
-ghost use Rattle.std.specs.Prelude.{◌≡◌, IfOk, IsNone};
-ghost use Rattle.pw_shelf.specs.Calls.{failures_told};
-ghost use Rattle.pw_book.specs.Asking.{IsOnlyAsked};
+ghost use Rattle.std.specs.Prelude.{IfOk};
 ghost use Rattle.pw_book.specs.Questions.{IsQuestion};
-ghost use Rattle.pw_carrying.specs.Lacking.{AreLacking, lacking_in};
+ghost use Rattle.pw_carrying.specs.Lacking.{AreLacking};
 
-use crate::shelf_calls::is_held;
-use pw_book::{Book, BookFault};
+use pw_book::{Book, BookFault, not_held};
 use pw_model::Entry;
-use pw_shelf::{Shelf, ShelfFault};
+use pw_shelf::Shelf;
 use std::alloc::Global;
 
 /// The entries of an upload that a book doesn't hold, in their order, each as often as it stands there.
@@ -25,26 +22,6 @@ pub fn lacking<S: Shelf>(
     ensures question { IsQuestion S.Shelf result book.old book.new }
 {
     book.still_open()?;
-    let found = not_held(alloc, &mut book.shelf, entries)?;
-    Ok(found)
-}
-
-// Those of some entries that a shelf doesn't hold.
-fn not_held<S: Shelf>(
-    alloc: Global,
-    shelf: &mut S,
-    entries: &[Entry],
-) -> Result<Vec<Entry>, ShelfFault>
-    requires idle { IsNone (S.state shelf.old).begun }
-    ensures found { S.clean shelf.new → IfOk result
-        (λ found. found.items ≡ lacking_in (S.state shelf.old).content.records entries.now) }
-    ensures asked { IsOnlyAsked S.Shelf (failures_told result) shelf.old shelf.new }
-{
-    let mut found = Vec::new(alloc);
-    for entry in entries {
-        if !is_held(shelf, entry)? {
-            found.push(*entry)?;
-        }
-    }
+    let found = not_held(&mut book.shelf, alloc, entries)?;
     Ok(found)
 }

@@ -25,21 +25,10 @@ use pw_moving::Respelling;
 use pw_shelf::Shelf;
 use pw_store::{OpenFault, SqlShelf, Watch};
 use pw_tariff::Office;
-use pw_words::Renamed;
+use pw_words::{Adoption, Renamed};
 use sqlite::{Alter, Connection};
 use std::alloc::{AllocError, Global};
 use std::io::Write;
-
-// What is to be adopted: the paths of the office file, the store and the new office file, and the names that are spelt
-// otherwise; where it is `dry`, nothing is changed.
-#[derive(Clone, Copy)]
-pub(crate) struct Adoption<'a> {
-    pub(crate) office: &'a str,
-    pub(crate) store: &'a str,
-    pub(crate) new_office: &'a str,
-    pub(crate) renamed: &'a [Renamed<'a>],
-    pub(crate) dry: bool,
-}
 
 // Gives a store another office file, where that adopts its records, and answers the exit status. What changes is told to
 // `out`; where it isn't adopted to `err`, with the fault's line.
@@ -50,7 +39,7 @@ pub(crate) fn adopt<O: Write, E: Write, W: Watch>(
     err: &mut E,
     watch: &mut W,
 ) -> u8 {
-    match adopted(rt, asked, watch) {
+    match adopted(rt, &asked, watch) {
         Ok(Weighed { text, adopts: true }) => finish(rt.alloc(), Ok(text), out, err),
         Ok(Weighed { text, .. }) => match write_whole(err, text.as_slice()) {
             Ok(()) => tell(rt.alloc(), Fault::NotAdopted, err),
@@ -62,7 +51,7 @@ pub(crate) fn adopt<O: Write, E: Write, W: Watch>(
 
 fn adopted<W: Watch>(
     rt: &HostRuntime,
-    asked: Adoption<'_>,
+    asked: &Adoption<'_>,
     watch: &mut W,
 ) -> Result<Weighed, Fault> {
     let (office, text) = read_office(rt, asked.office)?;
@@ -73,7 +62,7 @@ fn adopted<W: Watch>(
 // Gives the store of an office file another one, once both files are read.
 fn adopt_store<W: Watch>(
     rt: &HostRuntime,
-    asked: Adoption<'_>,
+    asked: &Adoption<'_>,
     office: Office,
     text: &[u8],
     new: Office,
@@ -83,7 +72,7 @@ fn adopt_store<W: Watch>(
     requires old { IsOfficeOf text.now office }
     requires new { IsOfficeOf new_text.now new }
 {
-    let words = respellings(rt.alloc(), asked.renamed)?;
+    let words = respellings(rt.alloc(), asked.renamed.as_slice())?;
     let store = asked.store;
     match open_book(rt, store, Purpose::Ask, office, text, MOST_RECORDS, watch) {
         Ok(book) => adopt_in(rt, book, &new, new_text, &words, asked.dry, watch),

@@ -15,21 +15,13 @@ use pw_model::{Entry, MOST_RECORDS, NANO_IN_CENT};
 use pw_shelf::Shelf;
 use pw_store::SqlShelf;
 use pw_tariff::{AccountId, Office};
+use pw_words::Carriage;
 use sqlite::Alter;
 use sqlite_std_file::Wary;
 use std::alloc::{AllocError, Global};
 use std::fmt;
 use std::fs::{self, File};
 use std::io::{self, ErrorKind, Write};
-
-// What is to be carried: the paths of the office file, the store, the new office file and the new store.
-#[derive(Clone, Copy)]
-pub(crate) struct Carriage<'a> {
-    pub(crate) office: &'a str,
-    pub(crate) store: &'a str,
-    pub(crate) new_office: &'a str,
-    pub(crate) new_store: &'a str,
-}
 
 // The paths at which a new store is made: its own and that of the log beside it; and those at which it stands until it is
 // whole.

@@ -12,11 +12,11 @@ ghost use Rattle.pw_read.specs.Run.{IsRun};
 ghost use Rattle.pw_commands.specs.Loads.{Gives, Refused};
 ghost use Rattle.pw_commands.specs.inner.Months.{IsMonthOf, IsNoMonth};
 
-use crate::adopting::{Adoption, adopt};
-use crate::carrying::{Carriage, carry};
+use crate::adopting::adopt;
+use crate::carrying::carry;
 use crate::fault::Fault;
 use crate::files::{LONGEST_OFFICE, read_file};
-use crate::loading::{Loading, Target, load};
+use crate::loading::load;
 use crate::offices::{office_text, read_office};
 use crate::pipe::pipe_run;
 use crate::progress::{Follow, Progress};
@@ -24,7 +24,7 @@ use crate::server::Term;
 use crate::serving::{origins_of, serve};
 use crate::store::{FileBook, close_book, open_book};
 use crate::telling::{finish, tell};
-use crate::verifying::{Verification, verify};
+use crate::verifying::verify;
 use pw_book::{Book, BookFault};
 use pw_found::Purpose;
 use pw_http::Audience;
@@ -114,19 +114,7 @@ fn obey<I: Read, O: Write, E: Write, W: Follow>(
         Command::Check { office, verbose } => {
             finish(rt.alloc(), check(rt, office, verbose), out, err)
         }
-        Command::Load {
-            office,
-            store,
-            source,
-            limit,
-        } => {
-            let target = Target {
-                office,
-                store,
-                limit,
-            };
-            load(rt, Loading { target, source }, out, err, watch)
-        }
+        Command::Load(asked) => load(rt, asked, out, err, watch),
         Command::Statement {
             office,
             store,
@@ -187,50 +175,9 @@ fn obey<I: Read, O: Write, E: Write, W: Follow>(
                 Err(fault) => tell(rt.alloc(), fault, err),
             }
         }
-        Command::Adopt {
-            office,
-            store,
-            new_office,
-            renamed,
-            dry,
-        } => {
-            let asked = Adoption {
-                office,
-                store,
-                new_office,
-                renamed: renamed.as_slice(),
-                dry,
-            };
-            adopt(rt, asked, out, err, watch)
-        }
-        Command::Carry {
-            office,
-            store,
-            new_office,
-            new_store,
-        } => {
-            let asked = Carriage {
-                office,
-                store,
-                new_office,
-                new_store,
-            };
-            carry(rt, asked, out, err, watch)
-        }
-        Command::Verify {
-            office,
-            store,
-            source,
-            all,
-        } => {
-            let asked = Verification {
-                office,
-                store,
-                source,
-                all,
-            };
-            verify(rt, asked, out, err, watch)
-        }
+        Command::Adopt(asked) => adopt(rt, asked, out, err, watch),
+        Command::Carry(asked) => carry(rt, asked, out, err, watch),
+        Command::Verify(asked) => verify(rt, asked, out, err, watch),
     }
 }
 

@@ -18,37 +18,19 @@ pub fn name_unreadable<E: Write>(rt: &HostRuntime, words: &[&str], err: &mut E) 
             office: Some(office),
             ..
         } => name_file(rt, office, err),
-        Command::Adopt {
-            office,
-            store,
-            new_office,
-            ..
+        Command::Adopt(asked) => name_moved(rt, asked.office, asked.store, asked.new_office, err),
+        Command::Carry(asked) => name_moved(rt, asked.office, asked.store, asked.new_office, err),
+        Command::Load(asked) => {
+            name_uploads(
+                rt,
+                asked.target.office,
+                &asked.source,
+                asked.target.store,
+                err,
+            );
         }
-        | Command::Carry {
-            office,
-            store,
-            new_office,
-            ..
-        } => {
-            name_file(rt, office, err);
-            name_store(rt, store, err);
-            name_file(rt, new_office, err);
-        }
-        Command::Load {
-            office,
-            store,
-            source,
-            ..
-        }
-        | Command::Verify {
-            office,
-            store,
-            source,
-            ..
-        } => {
-            name_file(rt, office, err);
-            name_source(rt, &source, err);
-            name_store(rt, store, err);
+        Command::Verify(asked) => {
+            name_uploads(rt, asked.office, &asked.source, asked.store, err);
         }
         Command::Statement { office, store, .. }
         | Command::Month { office, store, .. }
@@ -58,6 +40,32 @@ pub fn name_unreadable<E: Write>(rt: &HostRuntime, words: &[&str], err: &mut E) 
             name_store(rt, store, err);
         }
     }
+}
+
+// The files of a store that gets another office file, or is carried to it.
+fn name_moved<E: Write>(
+    rt: &HostRuntime,
+    office: &str,
+    store: &str,
+    new_office: &str,
+    err: &mut E,
+) {
+    name_file(rt, office, err);
+    name_store(rt, store, err);
+    name_file(rt, new_office, err);
+}
+
+// The files of uploads that are read for a store.
+fn name_uploads<E: Write>(
+    rt: &HostRuntime,
+    office: &str,
+    source: &Source<'_>,
+    store: &str,
+    err: &mut E,
+) {
+    name_file(rt, office, err);
+    name_source(rt, source, err);
+    name_store(rt, store, err);
 }
 
 fn name_source<E: Write>(rt: &HostRuntime, source: &Source<'_>, err: &mut E) {

@@ -16,33 +16,19 @@ use crate::telling::{finish, tell};
 use pw_book::{Accepted, Book};
 use pw_found::Purpose;
 use pw_http::LONGEST_BODY;
+use pw_line::ended;
 use pw_model::Distinct;
 use pw_record::UploadKind;
 use pw_shelf::Shelf;
 use pw_store::{SqlShelf, Watch};
 use pw_tariff::Office;
-use pw_words::Source;
+use pw_words::{Loading, Source, Target};
 use sqlite::Alter;
 use std::io::Write;
 use std::{fs, io};
 
 // No line of an accepted upload is longer, in bytes.
 const LONGEST_LINE: usize = 64;
-
-// Where uploads are loaded: the paths of the office file and of the store, and the most records of its book.
-#[derive(Clone, Copy)]
-pub(crate) struct Target<'a> {
-    pub(crate) office: &'a str,
-    pub(crate) store: &'a str,
-    pub(crate) limit: u32,
-}
-
-// What is loaded, and where.
-#[derive(Drop)]
-pub(crate) struct Loading<'a> {
-    pub(crate) target: Target<'a>,
-    pub(crate) source: Source<'a>,
-}
 
 // Loads what a source has, and answers the exit status. Of one file the acceptance line goes to `out`, or the fault's to
 // `err`; of more each line stands behind its file's name.
@@ -124,10 +110,8 @@ fn post<S: Shelf>(
     // Room for the line comes first, so that an upload which was accepted isn't told as refused.
     let mut line = Vec::with_capacity(rt.alloc(), LONGEST_LINE)?;
     let accepted = book.post_distinct(rt.alloc(), entries)?;
-    match writeln!(line, "{accepted}") {
-        Ok(()) => Ok(line),
-        Err(_) => Err(Fault::Memory),
-    }
+    line.extend_from_slice(ended(accepted.line()).as_str().as_bytes())?;
+    Ok(line)
 }
 
 // Loads what a source names, each upload whole or not at all, and answers the exit status. That all files are there is seen
@@ -251,7 +235,7 @@ pub(crate) fn is_of_file(fault: Fault) -> bool {
 }
 
 fn told_of<O: Write>(upload: &Upload<'_>, accepted: Accepted, out: &mut O) -> io::Result<()> {
-    writeln!(out, "{}: {accepted}", upload.path)?;
+    writeln!(out, "{}: {}", upload.path, accepted.line().as_str())?;
     out.flush()
 }
 

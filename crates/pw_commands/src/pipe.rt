@@ -1,8 +1,6 @@
 //! The command `pipe`: requests from one stream are answered on another, by a book in memory that ends with them.
 
 ghost use Rattle.std.specs.Prelude.{◌≡◌, ◌⊎◌, List, ℕ};
-ghost use Rattle.std.specs.Io.KnownBytes.{Appends};
-ghost use Rattle.pw_http.specs.declared.served.Served.{Served};
 ghost use Rattle.pw_tariff.specs.Text.{IsOfficeOf};
 ghost use Rattle.pw_words.specs.Words.{IsLimit};
 ghost use Rattle.pw_commands.specs.Pipe.{IsDone, IsStopped, RefusesOffice};

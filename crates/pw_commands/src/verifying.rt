@@ -19,20 +19,10 @@ use pw_model::{Entry, MOST_RECORDS};
 use pw_shelf::Shelf;
 use pw_store::{SqlShelf, Watch};
 use pw_tariff::Office;
-use pw_words::Source;
+use pw_words::Verification;
 use sqlite::Alter;
 use std::alloc::Global;
 use std::io::{self, Write};
-
-// What is to be verified: the paths of the office file and of the store, the uploads; and whether records that stand in
-// none of these are told too.
-#[derive(Drop)]
-pub(crate) struct Verification<'a> {
-    pub(crate) office: &'a str,
-    pub(crate) store: &'a str,
-    pub(crate) source: Source<'a>,
-    pub(crate) all: bool,
-}
 
 // What was found so far: how many records the files have, how many of them the store lacks, how many of the store's stand in
 // no file, and whether a file is refused.

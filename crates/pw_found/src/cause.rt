@@ -8,7 +8,7 @@ use crate::verdict::Refusal;
 use sqlite_std_file::OpenError;
 use sqlite_wal::Error;
 use std::fmt;
-use std::io::ErrorKind;
+use std::io::{self, ErrorKind};
 
 /// Why a store can't be opened.
 #[derive(Clone, Copy, Debug, PartialEq, Eq)]
@@ -98,4 +98,11 @@ pub(crate) fn refusal_of_log(error: Error) -> Refusal
         Error::OutOfMemory => Refusal::Memory,
         _ => Refusal::Unopened(Cause::Disk),
     }
+}
+
+// What a file whose size or bytes can't be told is to a command.
+pub(crate) fn refusal_of_file(_: io::Error) -> Refusal
+    ensures { IsOfLooking result }
+{
+    Refusal::Unopened(Cause::Disk)
 }

@@ -1,6 +1,6 @@
 //! A store's file and its log, looked at before anything is written.
 
-ghost use Rattle.std.specs.Prelude.{◌≡◌, ◌≢◌, ◌⊎◌, ◌↔◌, ◌<◌, ◌≤◌, length, slice_index, IsTrue, IfOk, IfErr};
+ghost use Rattle.std.specs.Prelude.{◌≡◌, ◌↔◌, length, slice_index, IsTrue, IfOk, IfErr};
 ghost use Rattle.sqlite_wal.specs.Files.{seen_image};
 ghost use Rattle.sqlite_wal.specs.Reads.{AreClean, IsClean, OnlyReads};
 ghost use Rattle.sqlite_pool.specs.Opening.{IsBlankFile};
@@ -8,7 +8,7 @@ ghost use Rattle.sqlite_pool.specs.Stored.{used_size};
 ghost use Rattle.pw_found.specs.Files.{IsCut, IsLogAlone, IsNoDatabase, IsNothing};
 ghost use Rattle.pw_found.specs.Verdicts.{IsOfLooking};
 
-use crate::cause::refusal_of_log;
+use crate::cause::{refusal_of_file, refusal_of_log};
 use crate::verdict::Refusal;
 use sqlite_disk::{Disk, Files};
 use sqlite_pool::probe_blank;
@@ -51,33 +51,13 @@ pub fn look<D: Disk>(alloc: Global, files: &mut Files<D>) -> Result<Found, Refus
     ensures log { OnlyReads D.Disk files.old.log files.new.log }
     ensures db { OnlyReads D.Disk files.old.db files.new.db }
 {
-    match found_in(alloc, files) {
-        Ok(found) => Ok(found),
-        Err(error) => Err(refusal_of_log(error)),
-    }
-}
-
-fn found_in<D: Disk>(alloc: Global, files: &mut Files<D>) -> Result<Found, Error>
-    requires log { IsTrue (D.Disk.is_usable files.old.log) }
-    requires db { IsTrue (D.Disk.is_usable files.old.db) }
-    ensures nothing { IfOk result (λ found. AreClean D.Disk files.new.log files.new.db
-        → found ≡ Found.Nothing → IsNothing (seen_image D.Disk files.old.log files.old.db)) }
-    ensures alone { IfOk result (λ found. AreClean D.Disk files.new.log files.new.db
-        → found ≡ Found.LogAlone → IsLogAlone (seen_image D.Disk files.old.log files.old.db)) }
-    ensures cut { IfOk result (λ found. AreClean D.Disk files.new.log files.new.db
-        → found ≡ Found.Cut → IsCut (seen_image D.Disk files.old.log files.old.db)) }
-    ensures file { IfOk result (λ found. AreClean D.Disk files.new.log files.new.db
-        → found ≡ Found.File → ¬ IsNoDatabase (seen_image D.Disk files.old.log files.old.db)) }
-    ensures log { OnlyReads D.Disk files.old.log files.new.log }
-    ensures db { OnlyReads D.Disk files.old.db files.new.db }
-{
-    if !is_no_database(alloc, files)? {
+    if !is_no_database(alloc, files).map_err(refusal_of_log)? {
         return Ok(Found::File);
     }
-    if files.log.len()? > LONGEST_EMPTY_LOG {
+    if files.log.len().map_err(refusal_of_file)? > LONGEST_EMPTY_LOG {
         return Ok(Found::LogAlone);
     }
-    if is_cut(&mut files.db)? {
+    if is_cut(&mut files.db).map_err(refusal_of_file)? {
         return Ok(Found::Cut);
     }
     Ok(Found::Nothing)

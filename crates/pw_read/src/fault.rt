@@ -11,7 +11,6 @@ use pw_line::{Line, ROOM};
 use pw_obis::{LineFault, ValueFault};
 use pw_time::StampFault;
 use std::alloc::AllocError;
-use std::fmt;
 
 /// What is wrong with a frame of a body.
 #[derive(Clone, Copy, Debug, PartialEq, Eq)]
@@ -127,17 +126,5 @@ impl Refusal {
             self.part as u64,
             missing,
         )
-    }
-}
-
-/// The fault line without its end.
-impl fmt::Display for Refusal {
-    ghost use Rattle.std.specs.Prelude.{Some};
-    ghost use Rattle.pw_read.specs.FaultLine.{fault_line};
-
-    ghost output = { λ refusal. Some (fault_line refusal) };
-
-    fn fmt<W: fmt::Write>(&self, f: &mut fmt::Formatter<W>) -> fmt::Result {
-        f.write_str(self.line().as_str())
     }
 }

@@ -12,7 +12,6 @@ use pw_line::{Line, ROOM};
 use pw_obis::{LineFault, ValueFault};
 use pw_time::StampFault;
 use std::alloc::AllocError;
-use std::fmt;
 
 /// What is wrong with a part of a body, or with the body itself.
 #[derive(Clone, Copy, Debug, PartialEq, Eq)]
@@ -197,17 +196,5 @@ impl UploadFault {
             u64::from(self.part),
             missing,
         )
-    }
-}
-
-/// The fault line without its end.
-impl fmt::Display for UploadFault {
-    ghost use Rattle.std.specs.Prelude.{Some};
-    ghost use Rattle.pw_record.specs.Causes.{fault_line};
-
-    ghost output = { λ fault. Some (fault_line fault) };
-
-    fn fmt<W: fmt::Write>(&self, f: &mut fmt::Formatter<W>) -> fmt::Result {
-        f.write_str(self.line().as_str())
     }
 }

@@ -1,7 +1,7 @@
 -- The tables: the eight of version 1, behind them the three of version 2, and behind these the one of version 3.
 -- (A format of this project. Trees are numbered by the place of their object in the file's list of objects, from 0; an
 -- index that SQLite makes for a key stands directly behind its table.)
-use Rattle.std.specs.Prelude.{◌≡◌, ℕ, ◌+◌, pos, true, false, [], ◌∷◌, Some, None, codes, List, take}
+use Rattle.std.specs.Prelude.{◌≡◌, ℕ, ◌+◌, pos, true, false, [], ◌∷◌, ◌++◌, Some, None, codes, List, take}
 use Rattle.sqlite.specs.Collation.TheVariants.{Binary}
 use Rattle.sqlite.specs.declared.types.Value.TheVariants.{Null, Int}
 use Rattle.sqlite.specs.Table.{Table}
@@ -126,44 +126,28 @@ first_with checks = record {
   views = [];
 }
 
--- those of version 2
+-- those of version 2: three more
 abbrev pub second_with : List Term → Schema
 second_with checks = record {
   tables =
-      office_at 0 checks ∷ reading_at 1 ∷ assignment_at 3 ∷ topup_at 5 ∷ point_at 7 ∷ start_at 9 ∷ total_at 11 ∷ total_topup_at 13
-      ∷ withdrawn_reading_at 14 ∷ withdrawn_assignment_at 16 ∷ withdrawn_topup_at 18 ∷ [];
+      (first_with checks).tables
+      ++ withdrawn_reading_at 14 ∷ withdrawn_assignment_at 16 ∷ withdrawn_topup_at 18 ∷ [];
   indexes =
-      index_of (codes "sqlite_autoindex_record_reading_1") 1 (1 ∷ 2 ∷ 3 ∷ 4 ∷ [])
-      ∷ index_of (codes "sqlite_autoindex_record_assignment_1") 3 (1 ∷ 2 ∷ 3 ∷ [])
-      ∷ index_of (codes "sqlite_autoindex_record_topup_1") 5 (1 ∷ 2 ∷ 3 ∷ 4 ∷ [])
-      ∷ index_of (codes "sqlite_autoindex_point_1") 7 (1 ∷ 2 ∷ 3 ∷ [])
-      ∷ index_of (codes "sqlite_autoindex_start_1") 9 (1 ∷ 2 ∷ [])
-      ∷ index_of (codes "sqlite_autoindex_total_1") 11 (1 ∷ 2 ∷ 3 ∷ [])
-      ∷ index_of (codes "sqlite_autoindex_withdrawn_reading_1") 14 (1 ∷ 2 ∷ 3 ∷ 4 ∷ [])
+      (first_with checks).indexes
+      ++ index_of (codes "sqlite_autoindex_withdrawn_reading_1") 14 (1 ∷ 2 ∷ 3 ∷ 4 ∷ [])
       ∷ index_of (codes "sqlite_autoindex_withdrawn_assignment_1") 16 (1 ∷ 2 ∷ 3 ∷ [])
       ∷ index_of (codes "sqlite_autoindex_withdrawn_topup_1") 18 (1 ∷ 2 ∷ 3 ∷ 4 ∷ [])
       ∷ [];
   views = [];
 }
 
--- those of version 3, which is that of a store once it is opened
+-- those of version 3, which is that of a store once it is opened: one more
 abbrev pub ours_with : List Term → Schema
 ours_with checks = record {
-  tables =
-      office_at 0 checks ∷ reading_at 1 ∷ assignment_at 3 ∷ topup_at 5 ∷ point_at 7 ∷ start_at 9 ∷ total_at 11 ∷ total_topup_at 13
-      ∷ withdrawn_reading_at 14 ∷ withdrawn_assignment_at 16 ∷ withdrawn_topup_at 18 ∷ period_total_at 20 ∷ [];
+  tables = (second_with checks).tables ++ period_total_at 20 ∷ [];
   indexes =
-      index_of (codes "sqlite_autoindex_record_reading_1") 1 (1 ∷ 2 ∷ 3 ∷ 4 ∷ [])
-      ∷ index_of (codes "sqlite_autoindex_record_assignment_1") 3 (1 ∷ 2 ∷ 3 ∷ [])
-      ∷ index_of (codes "sqlite_autoindex_record_topup_1") 5 (1 ∷ 2 ∷ 3 ∷ 4 ∷ [])
-      ∷ index_of (codes "sqlite_autoindex_point_1") 7 (1 ∷ 2 ∷ 3 ∷ [])
-      ∷ index_of (codes "sqlite_autoindex_start_1") 9 (1 ∷ 2 ∷ [])
-      ∷ index_of (codes "sqlite_autoindex_total_1") 11 (1 ∷ 2 ∷ 3 ∷ [])
-      ∷ index_of (codes "sqlite_autoindex_withdrawn_reading_1") 14 (1 ∷ 2 ∷ 3 ∷ 4 ∷ [])
-      ∷ index_of (codes "sqlite_autoindex_withdrawn_assignment_1") 16 (1 ∷ 2 ∷ 3 ∷ [])
-      ∷ index_of (codes "sqlite_autoindex_withdrawn_topup_1") 18 (1 ∷ 2 ∷ 3 ∷ 4 ∷ [])
-      ∷ index_of (codes "sqlite_autoindex_period_total_1") 20 (1 ∷ 2 ∷ 3 ∷ 4 ∷ [])
-      ∷ [];
+      (second_with checks).indexes
+      ++ index_of (codes "sqlite_autoindex_period_total_1") 20 (1 ∷ 2 ∷ 3 ∷ 4 ∷ []) ∷ [];
   views = [];
 }
 

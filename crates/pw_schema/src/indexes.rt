@@ -1,10 +1,9 @@
-//! Whether indexes are those of a store.
+//! Whether an index is one of a store.
 
-ghost use Rattle.std.specs.Prelude.{◌≡◌, ◌↔◌, ◌++◌, IsTrue, codes, map};
-ghost use Rattle.pw_schema.specs.Tables.{schema_of};
+ghost use Rattle.std.specs.Prelude.{◌≡◌, ◌↔◌, ◌++◌, IsTrue, codes};
 ghost use Rattle.pw_schema.specs.inner.Stages.{index_at};
 
-use crate::kind::StoreVersion;
+use crate::of_tables::OfTable;
 use crate::table::StoreTable;
 use sqlite_schema::schema::Index;
 use sqlite_value::keys::Order;
@@ -22,39 +21,15 @@ fn is_name(found: &[u8], table: &[u8]) -> bool
     name == table
 }
 
-fn is_index(found: &Index, table: StoreTable) -> bool
-    ensures is { IsTrue result → found.now ≡ index_at table }
-    ensures all { found.now ≡ index_at table → IsTrue result }
-{
-    is_name(found.name.as_slice(), table.name())
-        && found.tree == table.tree() + 1
-        && found.table == table.tree()
-        && found.columns.as_slice() == table.key()
-        && found.order == Order::PLAIN
-        && found.is_unique
-}
+impl OfTable for Index {
+    ghost of_table = { index_at };
 
-fn are_these(found: &[Index], tables: &[StoreTable]) -> bool
-    ensures is { IsTrue result → found.now ≡ map index_at tables.now }
-    ensures all { found.now ≡ map index_at tables.now → IsTrue result }
-{
-    let [first, found @ ..] = found else {
-        return tables.is_empty();
-    };
-    let [table, tables @ ..] = tables else {
-        return false;
-    };
-    is_index(first, *table) && are_these(found, tables)
-}
-
-// Whether the indexes are those of a store of this version.
-pub(crate) fn are_indexes(found: &[Index], version: StoreVersion) -> bool
-    ensures is { IsTrue result → found.now ≡ (schema_of version).indexes }
-    ensures all { found.now ≡ (schema_of version).indexes → IsTrue result }
-{
-    match version {
-        StoreVersion::First => are_these(found, &StoreTable::INDEXED[..6]),
-        StoreVersion::Second => are_these(found, &StoreTable::INDEXED[..9]),
-        StoreVersion::Third => are_these(found, StoreTable::INDEXED.as_slice()),
+    fn is_of_table(&self, table: StoreTable) -> bool {
+        is_name(self.name.as_slice(), table.name())
+            && self.tree == table.tree() + 1
+            && self.table == table.tree()
+            && self.columns.as_slice() == table.key()
+            && self.order == Order::PLAIN
+            && self.is_unique
     }
 }

@@ -14,6 +14,7 @@ mod keys;
 mod kind;
 pub mod laws;
 mod make;
+mod of_tables;
 mod office;
 mod raise;
 mod reading;

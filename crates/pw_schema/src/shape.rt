@@ -3,18 +3,19 @@
 ghost use Rattle.std.specs.Prelude.{◌≡◌, ◌↔◌, IsTrue};
 ghost use Rattle.pw_schema.specs.Tables.{BeginsAsOurs, IsOf, no_schema};
 
-use crate::indexes::are_indexes;
 use crate::kind::StoreVersion;
-use crate::tables::are_tables;
+use crate::of_tables::are_of_tables;
+use crate::table::StoreTable;
 use sqlite_schema::schema::Schema;
 
 /// Whether these are the tables of a store of this version, and nothing else.
 pub fn is_of(schema: &Schema, version: StoreVersion) -> bool
     ensures { IsTrue result ↔ IsOf version schema.now }
 {
+    let (tables, indexed) = StoreTable::of(version);
     schema.views.is_empty()
-        && are_tables(schema.tables.as_slice(), version)
-        && are_indexes(schema.indexes.as_slice(), version)
+        && are_of_tables(schema.tables.as_slice(), tables)
+        && are_of_tables(schema.indexes.as_slice(), indexed)
 }
 
 /// Whether the tables of version 1 stand first, with their indexes, whatever stands behind them.
@@ -29,7 +30,8 @@ pub fn begins_as_ours(schema: &Schema) -> bool
     if indexes.len() < 6 {
         return false;
     }
-    are_tables(&tables[..8], StoreVersion::First) && are_indexes(&indexes[..6], StoreVersion::First)
+    let (first, indexed) = StoreTable::of(StoreVersion::First);
+    are_of_tables(&tables[..8], first) && are_of_tables(&indexes[..6], indexed)
 }
 
 /// Whether there is nothing at all.

@@ -1,7 +1,10 @@
 //! The tables of a store, as values.
 
-ghost use Rattle.std.specs.Prelude.{◌≡◌, ◌<◌};
-ghost use Rattle.pw_schema.specs.inner.Stages.{stored, text_of, tree_of};
+ghost use Rattle.std.specs.Prelude.{◌≡◌, ◌<◌, map};
+ghost use Rattle.pw_schema.specs.Tables.{schema_of};
+ghost use Rattle.pw_schema.specs.inner.Stages.{index_at, stored, text_of, tree_of};
+
+use crate::kind::StoreVersion;
 
 // The tables of stores of all versions; the text that makes each, its name, its tree and its key are told from here.
 #[derive(Clone, Copy, Debug, PartialEq, Eq)]
@@ -50,6 +53,18 @@ impl StoreTable {
         StoreTable::WithdrawnTopUps,
         StoreTable::PeriodTotals,
     ];
+
+    // The tables of a version, and those of them whose key has an index.
+    pub(crate) fn of(version: StoreVersion) -> (&'static [StoreTable], &'static [StoreTable])
+        ensures tables { map stored result.0.now ≡ (schema_of version).tables }
+        ensures indexes { map index_at result.1.now ≡ (schema_of version).indexes }
+    {
+        match version {
+            StoreVersion::First => (&StoreTable::ALL[..8], &StoreTable::INDEXED[..6]),
+            StoreVersion::Second => (&StoreTable::ALL[..11], &StoreTable::INDEXED[..9]),
+            StoreVersion::Third => (StoreTable::ALL.as_slice(), StoreTable::INDEXED.as_slice()),
+        }
+    }
 
     // The text that makes the table.
     pub(crate) fn text(self) -> &'static str

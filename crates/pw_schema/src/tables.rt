@@ -1,13 +1,12 @@
-//! Whether tables are those of a store.
+//! Whether a table is one of a store.
 
-ghost use Rattle.std.specs.Prelude.{◌≡◌, [], IsTrue, false, map};
-ghost use Rattle.pw_schema.specs.Tables.{schema_of};
+ghost use Rattle.std.specs.Prelude.{◌≡◌, [], IsTrue, false};
 ghost use Rattle.pw_schema.specs.inner.Stages.{stored};
 
 use crate::checks::is_only_one;
 use crate::columns::are_columns;
 use crate::keys::has_key;
-use crate::kind::StoreVersion;
+use crate::of_tables::OfTable;
 use crate::table::StoreTable;
 use sqlite_schema::code::Terms;
 use sqlite_schema::schema::{Stamps, Table};
@@ -45,39 +44,15 @@ fn are_checks(found: &Terms, table: StoreTable) -> bool
     }
 }
 
-fn is_table(found: &Table, table: StoreTable) -> bool
-    ensures is { IsTrue result → found.now ≡ stored table }
-    ensures all { found.now ≡ stored table → IsTrue result }
-{
-    found.name.as_slice() == table.name()
-        && found.tree == table.tree()
-        && are_columns(found.columns.as_slice(), table)
-        && has_key(found, table)
-        && are_checks(&found.checks, table)
-        && is_plain(found)
-}
+impl OfTable for Table {
+    ghost of_table = { stored };
 
-fn are_these(found: &[Table], tables: &[StoreTable]) -> bool
-    ensures is { IsTrue result → found.now ≡ map stored tables.now }
-    ensures all { found.now ≡ map stored tables.now → IsTrue result }
-{
-    let [first, found @ ..] = found else {
-        return tables.is_empty();
-    };
-    let [table, tables @ ..] = tables else {
-        return false;
-    };
-    is_table(first, *table) && are_these(found, tables)
-}
-
-// Whether the tables are those of a store of this version.
-pub(crate) fn are_tables(found: &[Table], version: StoreVersion) -> bool
-    ensures is { IsTrue result → found.now ≡ (schema_of version).tables }
-    ensures all { found.now ≡ (schema_of version).tables → IsTrue result }
-{
-    match version {
-        StoreVersion::First => are_these(found, &StoreTable::ALL[..8]),
-        StoreVersion::Second => are_these(found, &StoreTable::ALL[..11]),
-        StoreVersion::Third => are_these(found, StoreTable::ALL.as_slice()),
+    fn is_of_table(&self, table: StoreTable) -> bool {
+        self.name.as_slice() == table.name()
+            && self.tree == table.tree()
+            && are_columns(self.columns.as_slice(), table)
+            && has_key(self, table)
+            && are_checks(&self.checks, table)
+            && is_plain(self)
     }
 }

@@ -55,14 +55,14 @@ abbrev pub IsSound : Command → Type 0
 IsSound (command.Read clock) = (clock ≡ Marked) → ⊥
 IsSound (command.Check office verbose) = ⊤
 IsSound (command.Pipe office limit) = IsLimit limit
-IsSound (command.Load office store files limit) = IsLimit limit × NamesFiles files
+IsSound (command.Load asked) = IsLimit asked.target.limit × NamesFiles asked.source
 IsSound (command.Statement office store account) = ⊤
 IsSound (command.Month what office store account month) = ⊤
 IsSound (command.Export office store what) = ⊤
 IsSound (command.Serve office store count until_input_ends port limit origins tells) = IsLimit limit × (1 ≤ port)
-IsSound (command.Adopt office store new_office renamed dry) = ⊤
-IsSound (command.Carry office store new_office new_store) = ⊤
-IsSound (command.Verify office store files all) = NamesFiles files
+IsSound (command.Adopt asked) = ⊤
+IsSound (command.Carry asked) = ⊤
+IsSound (command.Verify asked) = NamesFiles asked.source
 
 -- why words give no command, where they ask for no help
 abbrev pub IsRefusal : WordsFault → Type 0

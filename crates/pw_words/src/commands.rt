@@ -25,6 +25,51 @@ pub struct Renamed<'a> {
     pub new: &'a str,
 }
 
+/// Where uploads are loaded: the paths of the office file and of the store, and the most records of its book.
+#[derive(Clone, Copy, Debug)]
+pub struct Target<'a> {
+    pub office: &'a str,
+    pub store: &'a str,
+    pub limit: u32,
+}
+
+/// What is loaded, and where.
+#[derive(Debug, Drop)]
+pub struct Loading<'a> {
+    pub target: Target<'a>,
+    pub source: Source<'a>,
+}
+
+/// What is to be adopted: the paths of the office file, the store and the new office file, and the names that are spelt
+/// otherwise; where it is `dry`, nothing is changed.
+#[derive(Debug, Drop)]
+pub struct Adoption<'a> {
+    pub office: &'a str,
+    pub store: &'a str,
+    pub new_office: &'a str,
+    pub renamed: Vec<Renamed<'a>>,
+    pub dry: bool,
+}
+
+/// What is to be carried: the paths of the office file, the store, the new office file and the new store.
+#[derive(Clone, Copy, Debug)]
+pub struct Carriage<'a> {
+    pub office: &'a str,
+    pub store: &'a str,
+    pub new_office: &'a str,
+    pub new_store: &'a str,
+}
+
+/// What is to be verified: the paths of the office file and of the store, the uploads; and whether records that stand
+/// in none of these are told too.
+#[derive(Debug, Drop)]
+pub struct Verification<'a> {
+    pub office: &'a str,
+    pub store: &'a str,
+    pub source: Source<'a>,
+    pub all: bool,
+}
+
 /// What is to be exported.
 #[derive(Clone, Copy, Debug)]
 pub enum Exported<'a> {
@@ -52,12 +97,7 @@ pub enum Command<'a> {
         limit: u32,
     },
     /// Uploads are taken into a store.
-    Load {
-        office: &'a str,
-        store: &'a str,
-        source: Source<'a>,
-        limit: u32,
-    },
+    Load(Loading<'a>),
     /// The statement of the account with this name is printed.
     Statement {
         office: &'a str,
@@ -91,27 +131,11 @@ pub enum Command<'a> {
         origins: Vec<&'a str>,
         tells: bool,
     },
-    /// A store gets another office file in the place of its own; where it is `dry`, what would change is told alone.
-    Adopt {
-        office: &'a str,
-        store: &'a str,
-        new_office: &'a str,
-        renamed: Vec<Renamed<'a>>,
-        dry: bool,
-    },
+    /// A store gets another office file in the place of its own, or what would change is told alone.
+    Adopt(Adoption<'a>),
     /// All records of a store are taken into a new store of another office file.
-    Carry {
-        office: &'a str,
-        store: &'a str,
-        new_office: &'a str,
-        new_store: &'a str,
-    },
-    /// Uploads are read again, and those of their records told that a store lacks; of `all`, those of the store too that
-    /// stand in no upload.
-    Verify {
-        office: &'a str,
-        store: &'a str,
-        source: Source<'a>,
-        all: bool,
-    },
+    Carry(Carriage<'a>),
+    /// Uploads are read again, and those of their records told that a store lacks; or those of the store too that stand
+    /// in no upload.
+    Verify(Verification<'a>),
 }

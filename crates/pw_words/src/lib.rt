@@ -8,6 +8,8 @@ mod sample;
 mod vocabulary;
 pub mod words;
 
-pub use commands::{Command, Exported, Renamed, Source};
+pub use commands::{
+    Adoption, Carriage, Command, Exported, Loading, Renamed, Source, Target, Verification,
+};
 pub use fault::WordsFault;
 pub use sample::SAMPLE;

@@ -7,7 +7,9 @@ ghost use Rattle.pw_words.specs.Words.{AsksToPipe, IsClockWord, IsKindWord, IsLi
 ghost use Rattle.pw_words.specs.declared.commands.Command.TheVariants as asks;
 ghost use Rattle.pw_words.specs.inner.Told.{IsMonthWord, IsTableWord};
 
-use crate::commands::{Command, Exported, Renamed, Source};
+use crate::commands::{
+    Adoption, Carriage, Command, Exported, Loading, Renamed, Source, Target, Verification,
+};
 use crate::fault::{WordsFault, fault_of};
 use crate::parser::parser;
 use clap::error::ErrorKind;
@@ -206,12 +208,13 @@ fn command_of<'a>(matches: &ArgMatches<'a>, given: Given<'a>) -> Option<Command<
 fn load_of<'a>(words: &ArgMatches<'a>, files: Vec<&'a str>) -> Option<Command<'a>>
     ensures { IfSome result IsSound }
 {
-    Some(Command::Load {
+    let target = Target {
         office: words.get_str("OFFICE")?,
         store: words.get_str("STORE")?,
-        source: source_of(words, files)?,
         limit: limit_of(words)?,
-    })
+    };
+    let source = source_of(words, files)?;
+    Some(Command::Load(Loading { target, source }))
 }
 
 fn source_of<'a>(words: &ArgMatches<'a>, files: Vec<&'a str>) -> Option<Source<'a>>
@@ -290,35 +293,35 @@ fn serve_of<'a>(words: &ArgMatches<'a>, origins: Vec<&'a str>) -> Option<Command
 fn adopt_of<'a>(words: &ArgMatches<'a>, renamed: Vec<Renamed<'a>>) -> Option<Command<'a>>
     ensures { IfSome result IsSound }
 {
-    Some(Command::Adopt {
+    Some(Command::Adopt(Adoption {
         office: words.get_str("OFFICE")?,
         store: words.get_str("STORE")?,
         new_office: words.get_str("NEW_OFFICE")?,
         renamed,
         dry: words.get_flag("dry-run"),
-    })
+    }))
 }
 
 fn carry_of<'a>(words: &ArgMatches<'a>) -> Option<Command<'a>>
     ensures { IfSome result IsSound }
 {
-    Some(Command::Carry {
+    Some(Command::Carry(Carriage {
         office: words.get_str("OFFICE")?,
         store: words.get_str("STORE")?,
         new_office: words.get_str("NEW_OFFICE")?,
         new_store: words.get_str("NEW_STORE")?,
-    })
+    }))
 }
 
 fn verify_of<'a>(words: &ArgMatches<'a>, files: Vec<&'a str>) -> Option<Command<'a>>
     ensures { IfSome result IsSound }
 {
-    Some(Command::Verify {
+    Some(Command::Verify(Verification {
         office: words.get_str("OFFICE")?,
         store: words.get_str("STORE")?,
         source: source_of(words, files)?,
         all: words.get_flag("all"),
-    })
+    }))
 }
 
 fn limit_of(words: &ArgMatches<'_>) -> Option<u32>

@@ -122,12 +122,7 @@ fn numbers_and_names(rt: HostRuntime) {
     book_faults_told(&rt);
 }
 
-fn has_line(rt: &impl Abort, alloc: Global, fault: BookFault, expected: &str) -> bool {
-    let line = format!(in alloc; "{fault}").expect(rt, "memory");
-    line.as_str() == expected
-}
-
-// bears on: pw_book fault.rt BookFault output
+// bears on: pw_book fault.rt BookFault::line text
 #[test]
 fn lines_of_questions(rt: HostRuntime) {
     for (fault, line) in [
@@ -135,6 +130,6 @@ fn lines_of_questions(rt: HostRuntime) {
         (BookFault::Memory, "refused 62 Memory"),
         (BookFault::Reopen, "refused 63 Reopen"),
     ] {
-        assert!(rt; has_line(&rt, rt.alloc(), fault, line));
+        assert!(rt; fault.line().as_str() == line);
     }
 }

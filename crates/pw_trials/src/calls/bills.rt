@@ -143,7 +143,7 @@ fn tell_empty<O: Write, S: Shelf>(book: &mut Book<CountShelf<S>>, out: &mut O) {
     let _ = writeln!(out, "reads {made}");
     let _ = match book.count() {
         Ok(held) => writeln!(out, "{held} records"),
-        Err(fault) => writeln!(out, "{fault}"),
+        Err(fault) => writeln!(out, "{}", fault.line().as_str()),
     };
     let asked = book.shelf.seen();
     let _ = writeln!(out, "reads {asked}");
@@ -160,7 +160,7 @@ fn ask_of<O: Write, S: Shelf>(
         Ok(_) => tell_counted(asked, book, question, out),
         Err(PostFault::Reopen) => return None,
         Err(fault) => {
-            let _ = writeln!(out, "{fault}");
+            let _ = writeln!(out, "{}", fault.line().as_str());
         }
     }
     Some(())
@@ -175,7 +175,7 @@ fn tell_counted<O: Write, S: Shelf>(
 ) {
     let before = book.shelf.seen();
     if let Err(fault) = tell_answer(asked, book, question, out) {
-        let _ = writeln!(out, "{fault}");
+        let _ = writeln!(out, "{}", fault.line().as_str());
     }
     let reads = book.shelf.seen().saturating_sub(before);
     let _ = writeln!(out, "reads {reads}");

@@ -21,5 +21,5 @@ fn tell_want<O: Write>(out: &mut O) {
         cause: Cause::Memory,
     };
     let _ = writeln!(out, "{}", OfficeFault::Memory);
-    let _ = writeln!(out, "{upload}");
+    let _ = writeln!(out, "{}", upload.line().as_str());
 }

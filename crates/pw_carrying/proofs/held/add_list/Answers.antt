@@ -2,8 +2,8 @@ use Rattle.std.proofs.Common.{◌≡◌, cond, List, [], ◌∷◌, ◌++◌, Ve
 use Rattle.std.proofs.lemmas.List.{append-nil, take_all}
 use Rattle.pw_tariff.specs.Office.{office_of}
 use Rattle.pw_model.specs.declared.records.Entry.{Entry}
-use Rattle.pw_carrying.specs.Lacking.{lacking_in}
-use Rattle.pw_carrying.proofs.Missing.{passed, put}
+use Rattle.pw_book.specs.Posting.{fresh_of}
+use Rattle.pw_book.proofs.NotHeld.{passed, put}
 use Rattle.pw_carrying.proofs.NotSent.{lacking-next, sent-told, unsent-more}
 use Rattle.pw_carrying.proofs.held.add_list.Goals as goal
 use Rattle.pw_carrying.proofs.held.add_list.Goals.{then-not-was_sent+in_ok-push, else-not-was_sent}
@@ -26,6 +26,6 @@ loop-entry-preserved g c =
 pub returns-clause-adds : goal.returns-clause-adds
 returns-clause-adds g c = λ k.
     let held = c.in_ok-records.records.items in
-    unsent-more (office_of c.args.office.now) c.args.sent.now c.args.list (g.S.Shelf.state c.args.shelf.now).content.records held (lacking_in c.args.sent.now held) c.args.found.now.items c.loop-entry.found.items
+    unsent-more (office_of c.args.office.now) c.args.sent.now c.args.list (g.S.Shelf.state c.args.shelf.now).content.records held (fresh_of c.args.sent.now held) c.args.found.now.items c.loop-entry.found.items
     c.requires.list (λ of. c.in_ok-records.ensures.rows k of) refl
-    (c.loop-entry.invariant.found ∙ ap (λ (xs : List Entry). c.args.found.now.items ++ lacking_in c.args.sent.now xs) (take_all c.loop-entry.entry-index c.deref-entry-items.result.now c.loop-entry-test.false ∙ c.deref-entry-items.ensures.value))
+    (c.loop-entry.invariant.found ∙ ap (λ (xs : List Entry). c.args.found.now.items ++ fresh_of c.args.sent.now xs) (take_all c.loop-entry.entry-index c.deref-entry-items.result.now c.loop-entry-test.false ∙ c.deref-entry-items.ensures.value))
